@@ -1,0 +1,12 @@
+pub mod Lists
+pub mod Kept
+pub mod Arrivals
+pub mod Barrier
+pub mod Invariant
+pub mod Turns
+pub mod Start
+pub mod Agree
+pub mod Instance
+pub mod Rules
+pub mod Visits
+pub mod Counter

@@ -1,0 +1,4 @@
+pub mod Rows
+pub mod Leads
+pub mod Fitted
+pub mod Planned

@@ -1,0 +1,12 @@
+pub mod Program
+pub mod Rules
+pub mod Own
+pub mod Does
+pub mod Machine
+pub mod Standing
+pub mod Run
+pub mod Policy
+pub mod Plan
+pub mod Leads
+pub mod Fits
+pub mod WorkedListing

@@ -1,0 +1,9 @@
+pub mod Lists
+pub mod Combinators
+pub mod Kept
+pub mod Stands
+pub mod Numbers
+pub mod Going
+pub mod Brought
+pub mod Arriving
+pub mod Starting

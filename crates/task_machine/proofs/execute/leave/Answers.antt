@@ -1,0 +1,13 @@
+use Rattle.std.proofs.Common.{◌≡◌, ap, sym, ◌∙◌, rules, arith, FitsSigned, slice_get, Some, None, true, false, ℤ, ℕ, inl, inr, refl, length-drop}
+use Rattle.std.specs.Int.{w128}
+use Rattle.std.proofs.lemmas.Int.{to_z-of_z, ints}
+use Rattle.task_machine.proofs.Combinators.{returned_some, returned_none}
+use Rattle.task_machine.proofs.execute.leave.Goals as goal
+
+pub returns-in_err-to-clause-effect : goal.returns-in_err-to-clause-effect
+returns-in_err-to-clause-effect c =
+    rw c.from_residual.ensures (sym (returned_none _ _ (sym c.in_err-to.ensures)))
+
+pub returns-clause-effect : goal.returns-clause-effect
+returns-clause-effect c =
+    sym (returned_some _ _ _ (sym c.in_ok-to.ensures))

@@ -1,0 +1,28 @@
+use Rattle.std.proofs.Common.{◌≡◌, ap, sym, ◌∙◌, rules, arith, FitsSigned, slice_get, Some, None, true, false, ℤ, ℕ, inl, inr, refl, length-drop, to_z, of_z}
+use Rattle.std.specs.Int.{w128}
+use Rattle.std.proofs.lemmas.Int.{to_z-of_z, ints}
+use Rattle.task_machine.proofs.Combinators.{popped_some, popped_none, not_holding, load_holding}
+use Rattle.task_machine.proofs.execute.load_held.Goals as goal
+use Rattle.std.proofs.Common.{◌∷◌, drop}
+use Rattle.task_code.specs.Does.{to_stack}
+
+pub returns-in_err-i-clause-effect : goal.returns-in_err-i-clause-effect
+returns-in_err-i-clause-effect c =
+    rw c.from_residual.ensures (sym (popped_none _ _ (sym c.in_err-i.ensures.value)))
+
+pub returns-then-not-holds-clause-effect : goal.returns-then-not-holds-clause-effect
+returns-then-not-holds-clause-effect c =
+    sym (popped_some _ _ _ (sym c.in_ok-i.ensures.value) ∙ not_holding _ _ _ (sym c.if-not-holds.ensures))
+
+pub returns-in_err-k-clause-effect : goal.returns-in_err-k-clause-effect
+returns-in_err-k-clause-effect c =
+    let fit_i : FitsSigned w128 c.in_ok-i.i = search rules in
+    let h = simp to_z-of_z at c.in_err-k.ensures.place in
+    rw c.from_residual-in_err-k.ensures (sym (popped_some _ _ _ (sym c.in_ok-i.ensures.value) ∙ load_holding c.args.own.now.held c.args.monitor c.in_ok-i.i c.args.at c.args.n (λ w. to_stack c.args.own.now (w ∷ drop 1 c.args.own.now.stack)) (sym c.if-not-holds.ensures) ∙ h _))
+
+pub returns-clause-effect : goal.returns-clause-effect
+returns-clause-effect c =
+    let fit_i : FitsSigned w128 c.in_ok-i.i = search rules in
+    let fit_word : FitsSigned w128 c.held_word-word.result = search rules in
+    let h = simp to_z-of_z at c.in_ok-k.ensures.place in
+    simp to_z-of_z (rw c.held_word-word.ensures (sym (popped_some _ _ _ (sym c.in_ok-i.ensures.value) ∙ load_holding c.args.own.now.held c.args.monitor c.in_ok-i.i c.args.at c.args.n (λ w. to_stack c.args.own.now (w ∷ drop 1 c.args.own.now.stack)) (sym c.if-not-holds.ensures) ∙ h _)))

@@ -1,0 +1,15 @@
+use Rattle.std.proofs.Common.{◌≡◌, ap, sym, ◌∙◌, rules, arith, FitsSigned, slice_get, Some, None, true, false, ℤ, ℕ, inl, inr, refl, length-drop}
+use Rattle.std.specs.Int.{w128}
+use Rattle.std.proofs.lemmas.Int.{to_z-of_z, ints}
+use Rattle.task_machine.proofs.Combinators.{popped_some, popped_none}
+use Rattle.task_machine.proofs.execute.push_again.Goals as goal
+
+pub returns-in_err-word-clause-effect : goal.returns-in_err-word-clause-effect
+returns-in_err-word-clause-effect c =
+    rw c.from_residual.ensures (sym (popped_none _ _ (sym c.in_err-word.ensures.value)))
+
+pub returns-clause-effect : goal.returns-clause-effect
+returns-clause-effect c =
+    let fit : FitsSigned w128 c.in_ok-word.word = search rules in
+    let h = simp to_z-of_z at c.push.ensures.effect in
+    h ∙ sym (popped_some _ _ _ (sym c.in_ok-word.ensures.value))

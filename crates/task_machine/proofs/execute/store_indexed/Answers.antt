@@ -1,0 +1,26 @@
+use Rattle.std.proofs.Common.{◌≡◌, ap, sym, ◌∙◌, rules, arith, FitsSigned, slice_get, Some, None, true, false, ℤ, ℕ, inl, inr, refl, length-drop}
+use Rattle.std.specs.Int.{w128}
+use Rattle.std.proofs.lemmas.Int.{to_z-of_z, ints}
+use Rattle.task_machine.proofs.Combinators.{popped_two, popped_two_none, popped_none}
+use Rattle.task_machine.proofs.execute.store_indexed.Goals as goal
+
+pub returns-in_err-i-clause-effect : goal.returns-in_err-i-clause-effect
+returns-in_err-i-clause-effect c =
+    rw c.from_residual.ensures (sym (popped_two_none _ _ (sym c.in_err-i.ensures.value)))
+
+pub returns-in_err-word-clause-effect : goal.returns-in_err-word-clause-effect
+returns-in_err-word-clause-effect c =
+    rw c.from_residual-in_err-word.ensures (sym (popped_none _ _ (sym c.in_err-word.ensures.value)))
+
+pub returns-in_err-k-clause-effect : goal.returns-in_err-k-clause-effect
+returns-in_err-k-clause-effect c =
+    let fit_i : FitsSigned w128 c.in_ok-i.i = search rules in
+    let h = simp to_z-of_z at c.in_err-k.ensures.place in
+    rw c.from_residual-in_err-k.ensures (sym (popped_two _ _ _ _ (sym c.in_ok-word.ensures.value) (sym c.in_ok-i.ensures.value) ∙ h _))
+
+pub returns-clause-effect : goal.returns-clause-effect
+returns-clause-effect c =
+    let fit_i : FitsSigned w128 c.in_ok-i.i = search rules in
+    let fit_word : FitsSigned w128 c.in_ok-word.word = search rules in
+    let h = simp to_z-of_z at c.in_ok-k.ensures.place in
+    simp to_z-of_z (sym (popped_two _ _ _ _ (sym c.in_ok-word.ensures.value) (sym c.in_ok-i.ensures.value) ∙ h _))

@@ -1,0 +1,82 @@
+use Rattle.std.proofs.Common.{◌≡◌, ℕ, ◌<◌, true, Bool, length, ap, sym, ◌∙◌, subst, refl, Option, Some, None, slice_get}
+use Rattle.task_machine.specs.Policy.{IsLawful}
+use Rattle.task_machine.specs.State.{State, Goes, ready, holds, standing_in}
+use Rattle.task_machine.specs.declared.machine.Went.{Went}
+use Rattle.task_machine.specs.declared.machine.Went.TheVariants as went
+use Rattle.task_machine.proofs.Going.{length_ready, ready_in, ready_stands, are_monitors}
+use Rattle.task_machine.proofs.machine.Machine.go.Goals as goal
+
+pub pick-requires-clause-ready : goal.pick-requires-clause-ready
+pick-requires-clause-ready g c =
+    rw (c.as_slice.ensures.value, c.note_ready.ensures) (length_ready c.self.inside.running ∙ rw (← c.self.view_is) at (sym c.requires.tasks))
+
+pub pick-requires-clause-holds : goal.pick-requires-clause-holds
+pick-requires-clause-holds g c = c.holds.ensures.count ∙ rw (← c.self.view_is) at (sym c.requires.tasks)
+
+pub turn-requires-clause-task : goal.turn-requires-clause-task
+turn-requires-clause-task g c =
+    let s = c.self.inside.running in
+    let flags : c.as_slice.result.now ≡ ready s = c.as_slice.ensures.value ∙ c.note_ready.ensures in
+    let held : c.holds.result.now ≡ holds s = c.holds.ensures.held in
+    let tasks = rw (← c.self.view_is) at (sym c.requires.tasks) in
+    let most = rw (← c.self.view_is) at c.requires.monitors in
+    let law = g.met.P.Policy.lawful c.args.policy.now c.as_slice.result.now c.holds.result.now c.args.k
+    (ap length flags ∙ length_ready s ∙ tasks) (c.holds.ensures.count ∙ tasks) (are_monitors _ _ _ most c.holds.ensures.below) in
+    let lawful : IsLawful (ready s) (Some c.in-Some.x) = rw (← flags) (subst (λ (r : Option ℕ). IsLawful c.as_slice.result.now r) (sym c.in-Some.ensures) law) in
+    ready_in s c.in-Some.x lawful
+
+pub turn-requires-clause-ready : goal.turn-requires-clause-ready
+turn-requires-clause-ready g c =
+    let s = c.self.inside.running in
+    let flags : c.as_slice.result.now ≡ ready s = c.as_slice.ensures.value ∙ c.note_ready.ensures in
+    let held : c.holds.result.now ≡ holds s = c.holds.ensures.held in
+    let tasks = rw (← c.self.view_is) at (sym c.requires.tasks) in
+    let most = rw (← c.self.view_is) at c.requires.monitors in
+    let law = g.met.P.Policy.lawful c.args.policy.now c.as_slice.result.now c.holds.result.now c.args.k
+    (ap length flags ∙ length_ready s ∙ tasks) (c.holds.ensures.count ∙ tasks) (are_monitors _ _ _ most c.holds.ensures.below) in
+    let lawful : IsLawful (ready s) (Some c.in-Some.x) = rw (← flags) (subst (λ (r : Option ℕ). IsLawful c.as_slice.result.now r) (sym c.in-Some.ensures) law) in
+    ready_stands s c.in-Some.x lawful
+
+pub invariant_of-self : goal.invariant_of-self
+invariant_of-self g c = rw (c.note_ready.ensures, c.turn.ensures.state) (length_ready c.self.inside.running)
+
+pub invariant_of-self-in-None : goal.invariant_of-self-in-None
+invariant_of-self-in-None g c = rw c.note_ready.ensures (length_ready c.self.inside.running)
+
+pub returns-in-Some-clause-step : goal.returns-in-Some-clause-step
+returns-in-Some-clause-step g c =
+    let s = c.self.inside.running in
+    let flags : c.as_slice.result.now ≡ ready s = c.as_slice.ensures.value ∙ c.note_ready.ensures in
+    let held : c.holds.result.now ≡ holds s = c.holds.ensures.held in
+    let tasks = rw (← c.self.view_is) at (sym c.requires.tasks) in
+    let most = rw (← c.self.view_is) at c.requires.monitors in
+    let law = g.met.P.Policy.lawful c.args.policy.now c.as_slice.result.now c.holds.result.now c.args.k
+    (ap length flags ∙ length_ready s ∙ tasks) (c.holds.ensures.count ∙ tasks) (are_monitors _ _ _ most c.holds.ensures.below) in
+    let lawful : IsLawful (ready s) (Some c.in-Some.x) = rw (← flags) (subst (λ (r : Option ℕ). IsLawful c.as_slice.result.now r) (sym c.in-Some.ensures) law) in
+    let named = rw (flags, held) at c.in-Some.ensures in
+    let Step : Option ℕ → Type 0 = λ r. Goes s r (went.Stepped c.turn.result) c.turn.new.self in
+    rw (← c.self.view_is) (subst Step named (ready_stands s c.in-Some.x lawful, ap went.Stepped c.turn.ensures.mark, c.turn.ensures.state))
+
+pub returns-in-Some-clause-none : goal.returns-in-Some-clause-none
+returns-in-Some-clause-none g c =
+    let s = c.self.inside.running in
+    let flags : c.as_slice.result.now ≡ ready s = c.as_slice.ensures.value ∙ c.note_ready.ensures in
+    let held : c.holds.result.now ≡ holds s = c.holds.ensures.held in
+    let tasks = rw (← c.self.view_is) at (sym c.requires.tasks) in
+    let most = rw (← c.self.view_is) at c.requires.monitors in
+    let law = g.met.P.Policy.lawful c.args.policy.now c.as_slice.result.now c.holds.result.now c.args.k
+    (ap length flags ∙ length_ready s ∙ tasks) (c.holds.ensures.count ∙ tasks) (are_monitors _ _ _ most c.holds.ensures.below) in
+    let lawful : IsLawful (ready s) (Some c.in-Some.x) = rw (← flags) (subst (λ (r : Option ℕ). IsLawful c.as_slice.result.now r) (sym c.in-Some.ensures) law) in
+    rw (← c.self.view_is) (λ e. cc, λ none. absurd (none c.in-Some.x lawful))
+
+pub returns-in-None-clause-none : goal.returns-in-None-clause-none
+returns-in-None-clause-none g c =
+    let s = c.self.inside.running in
+    let flags : c.as_slice.result.now ≡ ready s = c.as_slice.ensures.value ∙ c.note_ready.ensures in
+    let held : c.holds.result.now ≡ holds s = c.holds.ensures.held in
+    let tasks = rw (← c.self.view_is) at (sym c.requires.tasks) in
+    let most = rw (← c.self.view_is) at c.requires.monitors in
+    let law = g.met.P.Policy.lawful c.args.policy.now c.as_slice.result.now c.holds.result.now c.args.k
+    (ap length flags ∙ length_ready s ∙ tasks) (c.holds.ensures.count ∙ tasks) (are_monitors _ _ _ most c.holds.ensures.below) in
+    let lawful : IsLawful (ready s) None = rw (← flags) (subst (λ (r : Option ℕ). IsLawful c.as_slice.result.now r) (sym c.in-None.ensures) law) in
+    rw (← c.self.view_is) (λ e. lawful, λ none. refl)

@@ -1,0 +1,33 @@
+use Rattle.std.proofs.Common.{◌≡◌, ap, sym, ◌∙◌, refl, arith, subst, slice_get, slice_set, length, ◌<◌, ◌≤◌, ◌+◌, Some, None, List, ℤ, ℕ, Option}
+use Rattle.std.specs.Option.{option_map}
+use Rattle.std.specs.Prelude.{IsSomeAnd}
+use Rattle.std.proofs.Math.ListN.{length-set}
+use Rattle.task_code.specs.Own.{held_monitor, Held}
+use Rattle.task_code.specs.Does.{on}
+use Rattle.task_machine.specs.Queue.{waiting}
+use Rattle.task_machine.specs.Action.{changed, with_lock_of, without_held, with_message}
+use Rattle.task_machine.proofs.Kept.{kept_own, kept_held, kept_take, length_changed, held_changed, length_laid, read_is, get_read, words_free, ready_within, held_is, none_held, oldest_is, waiting_taken, lost_taken}
+use Rattle.task_machine.proofs.running.Running.lock.Goals as goal
+
+pub invariant_of-self : goal.invariant_of-self
+invariant_of-self c =
+    let part = c.index_mut-in-Some.result.now in
+    let r : c.args.x < length c.self.inside.program.tasks = rw (← c.self.view_is) at c.requires.task in
+    let l : c.args.x < length c.self.inside.tasks.items = rw c.self.invariant.kept.owns_count r in
+    let g = get_read c.self.inside.tasks.items c.args.x part l c.index_mut-in-Some.ensures.value in
+    let free = rw (← c.self.view_is) at c.requires.free in
+    let m : c.args.monitor < length c.self.inside.locks.items = ready_within c.self.inside.locks.items _ _ free in
+    let b : c.args.monitor < length c.self.inside.program.monitors = omega (arith, m, c.self.invariant.kept.locks_count) in
+    record { kept = rw c.lock.ensures (kept_held c.self.invariant.kept c.args.x part (with_lock_of c.args.monitor part c.in-Some.words) (Some c.args.monitor) _ g l refl refl b (length-set c.self.inside.locks.items c.args.monitor _)); known = (r, tt) }
+
+pub returns : goal.returns
+returns c = λ own e.
+    let part = c.index_mut-in-Some.result.now in
+    let r : c.args.x < length c.self.inside.program.tasks = rw (← c.self.view_is) at c.requires.task in
+    let l : c.args.x < length c.self.inside.tasks.items = rw c.self.invariant.kept.owns_count r in
+    let g : slice_get c.self.inside.tasks.items c.args.x ≡ Some own = rw (← c.self.view_is) at e in
+    let o : part ≡ own = read_is c.self.inside.tasks.items c.args.x part own l c.index_mut-in-Some.ensures.value g in
+    let free = rw (← c.self.view_is) at c.requires.free in
+    let m : c.args.monitor < length c.self.inside.locks.items = ready_within c.self.inside.locks.items _ _ free in
+    let ws = words_free c.self.inside.locks.items c.args.monitor c.index_mut.result.now c.in-Some.words m c.index_mut.ensures.value c.in-Some.ensures.words in
+    rw (c.lock.ensures, c.in-Some.ensures.held, o, ← c.self.view_is, ws) refl

@@ -1,0 +1,14 @@
+pub mod Action
+pub mod Lock
+pub mod Message
+pub mod Policy
+pub mod Lawful
+pub mod Queue
+pub mod State
+pub mod Brought
+pub mod Arriving
+pub mod Kept
+pub mod Start
+pub mod View
+pub mod Standing
+pub mod Worked

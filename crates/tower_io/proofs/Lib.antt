@@ -1,0 +1,4 @@
+pub mod Adding
+pub mod Counting
+mod Finding
+pub mod Taking

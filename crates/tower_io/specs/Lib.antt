@@ -1,0 +1,11 @@
+pub mod Faults
+pub mod Fetching
+pub mod FileShelves
+pub mod MemoryShelves
+pub mod MemorySinks
+pub mod Names
+pub mod Readings
+pub mod Shelves
+pub mod Sinks
+pub mod SureShelves
+pub mod Texts

@@ -1,0 +1,4 @@
+//! What a system means: the atomic steps of its marks.
+#![tactic(auto)]
+
+pub mod laws;

@@ -1,0 +1,13 @@
+pub mod Puts
+pub mod Spaced
+pub mod Lines
+pub mod Bracketed
+pub mod Shapes
+pub mod Lookups
+pub mod Numbers
+pub mod Cuts
+pub mod States
+pub mod Listed
+pub mod Steps
+pub mod Fitting
+pub mod Rows

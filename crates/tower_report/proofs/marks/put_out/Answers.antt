@@ -1,0 +1,16 @@
+use Rattle.std.proofs.Common.{◌≡◌, ◌∙◌, sym, ap, [], ◌∷◌, rules, arith}
+use Rattle.std.specs.Prelude.{codes}
+use Rattle.tower_types.specs.Ty.{shape_of, depth, words}
+use Rattle.tower_types.specs.View.{ty_of}
+use Rattle.tower_report.specs.MarkText.{output_shape}
+use Rattle.tower_report.proofs.Puts.{Puts-answer, Puts-same}
+use Rattle.tower_report.proofs.Lookups.{output_name_at, output_shape_at, out_line_same}
+use Rattle.tower_report.proofs.marks.put_out.Goals as goal
+
+pub returns : goal.returns
+returns g c =
+    let arch = c.args.arch.now in
+    let name = c.bytes.ensures.value ∙ sym (output_name_at arch c.args.o _ c.output-output.ensures.value) in
+    let shape = ap (λ rs. shape_of rs (ty_of c.channel.result.now.message)) c.records.ensures.value ∙ sym (output_shape_at arch c.args.o _ _ c.output-output.ensures.value c.channel.ensures.value) in
+    let e = out_line_same arch c.args.o c.args.words.now _ _ name shape in
+    Puts-answer c.answer.ensures (Puts-same e c.put_words_line.ensures)

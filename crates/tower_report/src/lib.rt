@@ -1,0 +1,20 @@
+//! The texts of a run, and the calls that put them on a sink. None of them takes memory.
+#![tactic(auto)]
+
+pub mod ends;
+pub mod marks;
+mod pieces;
+pub mod replays;
+pub mod rule;
+pub mod values;
+pub mod words;
+
+pub use ends::{put_count, put_end, put_held, put_lost, put_states, put_waits};
+pub use marks::{put_mark, put_out};
+pub use replays::{put_message, put_misfit, put_pending, put_state_values, put_waiting};
+pub use rule::Rule;
+pub use values::put_value;
+pub use words::put_words;
+
+#[cfg(test)]
+mod tests;

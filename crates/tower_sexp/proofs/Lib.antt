@@ -1,0 +1,11 @@
+pub mod Order
+pub mod Gaps
+pub mod Wrong
+pub mod Whole
+pub mod Steps
+pub mod Firsts
+pub mod Ends
+pub mod Seen
+pub mod Spelled
+pub mod Classes
+pub mod Splitting

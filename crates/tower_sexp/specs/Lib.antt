@@ -1,0 +1,10 @@
+pub mod Marks
+pub mod Pieces
+pub mod Faults
+pub mod FirstFault
+pub mod Trees
+pub mod Nesting
+pub mod WholeTokens
+pub mod Lexing
+pub mod Standing
+pub mod Laws

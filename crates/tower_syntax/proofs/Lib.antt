@@ -1,0 +1,9 @@
+pub mod Elements
+pub mod Spaced
+pub mod Ascii
+pub mod Views
+pub mod RawViews
+pub mod NamedViews
+pub mod WeightRows
+pub mod LineRows
+pub mod NumberRows

@@ -1,0 +1,8 @@
+use Rattle.std.proofs.Common.{◌≡◌, ◌++◌, map, take}
+use Rattle.tower_syntax.specs.RawView.{raw_hpart_of}
+use Rattle.tower_syntax.specs.Form.{all_spaced}
+use Rattle.tower_syntax.specs.Printed.{hpart_form}
+use Rattle.tower_syntax.proofs.printed.put_hparts.Given as goal
+
+abbrev pub invariant-loop-part : goal.invariant-loop-part
+invariant-loop-part l = l.out.items ≡ l.initial.out.items ++ all_spaced (map hpart_form (map raw_hpart_of (take l.part-index l.parts)))

@@ -1,0 +1,4 @@
+pub mod InputFacts
+pub mod Quiet
+pub mod SmallFacts
+pub mod SmallSound

@@ -1,0 +1,11 @@
+pub mod Kept
+pub mod Range
+pub mod Wrapped
+pub mod Parts
+pub mod Shapes
+pub mod Fitted
+pub mod Seen
+pub mod Flat
+pub mod Made
+pub mod Taken
+pub mod Lawful
