@@ -186,6 +186,8 @@ module _ {p : Program} {events : Events} {owns : List Own} {locks : List Lock} {
     locks_count = kept.locks_count;
     queues_count = n ∙ kept.queues_count;
     words = kept.words;
+    free = kept.free;
+    held_words = kept.held_words;
     queues = λ x t r at there.
         let a = get_within later x r there in
         let q = get_exists qs x (omega (arith, a, n)) in
@@ -239,6 +241,8 @@ module _ {p : Program} {events : Events} {owns : List Own} {locks : List Lock} {
     locks_count = kept.locks_count;
     queues_count = n ∙ kept.queues_count;
     words = kept.words;
+    free = kept.free;
+    held_words = kept.held_words;
     queues = λ y t r at there.
         let a = get_within later y r there in
         let q = get_exists qs y (omega (arith, a, n)) in

@@ -1,6 +1,6 @@
 -- What a running machine keeps stays, whatever a task does.
 use Rattle.std.proofs.Common.{◌≡◌, ℕ, zero, suc, ◌+◌, ◌-◌, ◌<◌, ◌≤◌, ℤ, List, [], ◌∷◌, ◌++◌, length, map, take, drop, Option, Some, None, slice_get, slice_index_or, slice_set, refl, ap, sym, ◌∙◌, subst, arith, inl, inr, length-drop, length-append}
-use Rattle.std.specs.Prelude.{All, min, IsSomeAnd}
+use Rattle.std.specs.Prelude.{All, min, IsSomeAnd, slice_index}
 use Rattle.std.specs.Option.{option_map}
 use Rattle.std.specs.VecDeque.{deque_capacity}
 use Rattle.std.proofs.Math.ListN.{length-set}
@@ -20,7 +20,7 @@ use Rattle.task_machine.specs.declared.action.Change.{Change}
 use Rattle.task_machine.specs.declared.action.Change.TheVariants.{Pop, Push, Store, StoreHeld, Jump, Call, Return, Fill, Count}
 use Rattle.task_machine.specs.Action.{changed, with_held_word, with_message}
 use Rattle.task_machine.specs.Queue.{Queue, waiting, lost, capped, IsQueue}
-use Rattle.task_machine.specs.Kept.{HaveRoom, AreQueues, IsKept, coming, kind_of, depth_of}
+use Rattle.task_machine.specs.Kept.{HaveRoom, HasWords, HaveWords, HoldsWords, HoldWords, AreQueues, IsKept, coming, kind_of, depth_of}
 use Rattle.task_machine.proofs.Lists.{get_at, get_some, get_within, set_same, get_map, set_map}
 
 module _ {X : Type 0} where
@@ -74,6 +74,22 @@ held_changed (Return to) own = refl
 held_changed (Fill n b j v) own = refl
 held_changed (Count b n) own = refl
 
+held_words_stored : (p : Program) (a : ℕ) (w : ℤ) (held : Option Held) → HoldsWords p held → HoldsWords p (option_map (with_held_word a w) held)
+held_words_stored p a w None is = tt
+held_words_stored p a w (Some h) is = length-set h.words a w ∙ is
+
+-- and so does the number of its words
+pub held_words_changed : (p : Program) (c : Change) (own : Own) → HoldsWords p own.held → HoldsWords p (changed c own).held
+held_words_changed p (Pop n) own is = is
+held_words_changed p (Push n w) own is = is
+held_words_changed p (Store n a w) own is = is
+held_words_changed p (StoreHeld n a w) own is = held_words_stored p a w own.held is
+held_words_changed p (Jump n to) own is = is
+held_words_changed p (Call to) own is = is
+held_words_changed p (Return to) own is = is
+held_words_changed p (Fill n b j v) own is = is
+held_words_changed p (Count b n) own is = is
+
 pub length_laid : (a : ℕ) (message ws : List ℤ) → a + length message ≤ length ws → length (laid a message ws) ≡ length ws
 length_laid a message ws h = simp (length-append, length-take, length-drop) (omega arith)
 
@@ -88,6 +104,28 @@ have_room p owns x own later h g l e = λ y t o at there.
           rw (← k) (e ∙ h x t own r g)
       | inr other ↦ h y t o at (sym (get_set_other owns x y later other) ∙ there)
     ]
+
+-- what holds of each element of a list still does, once one is written that it holds of
+each_set : {X : Type 0} (P : ℕ → X → Type 0) (xs : List X) (i : ℕ) (x : X) → i < length xs → P i x → ((j : ℕ) (y : X) → slice_get xs j ≡ Some y → P j y)
+    → (j : ℕ) (y : X) → slice_get (slice_set xs i x) j ≡ Some y → P j y
+each_set P xs i x l here each = λ j y at.
+    elim (cases_eq j i) [
+      | inl same ↦
+          let f : slice_get (slice_set xs i x) i ≡ Some y = rw same at at in
+          let k : x ≡ y = let q = sym (get_set_same xs i x l) ∙ f in cc in
+          rw (same, ← k) here
+      | inr other ↦ each j y (sym (get_set_other xs i j x other) ∙ at)
+    ]
+
+hold_words : (p : Program) (owns : List Own) (x : ℕ) (later : Own) → x < length owns → HoldsWords p later.held → HoldWords p owns → HoldWords p (slice_set owns x later)
+hold_words p owns x later l here each = each_set (λ j own. HoldsWords p own.held) owns x later l here each
+
+pub have_words : (p : Program) (locks : List Lock) (m : ℕ) (l : Lock) → m < length locks → HasWords (slice_index p.monitors m) l → HaveWords p locks → HaveWords p (slice_set locks m l)
+have_words p locks m l within here each = each_set (λ j lock. HasWords (slice_index p.monitors j) lock) locks m l within here each
+
+pub free_words_has : (n : ℕ) (l : Lock) (ws : List ℤ) → HasWords n l → Some ws ≡ free_words l → length ws ≡ n
+free_words_has n (Free vs) ws is e = let f : ws ≡ vs = cc in ap length f ∙ is
+free_words_has n (HeldBy t) ws is e = cc
 
 less_capped : (d : Option ℕ) (m n : ℕ) → m ≤ n → capped d m ≤ capped d n
 less_capped None m n h = h
@@ -170,14 +208,16 @@ lost_taken qs x q rest e f =
 module _ {p : Program} {events : Events} {owns : List Own} {locks : List Lock} {qs : List Queue} {messages : List (List ℤ)} {held : List (Option ℕ)} {k place : ℕ} where
   -- a task's own part changes, and the lock that it holds stays
   pub kept_own : IsKept p events owns locks qs messages held k place → (x : ℕ) (own later : Own) → slice_get owns x ≡ Some own → x < length owns
-      → length later.words ≡ length own.words → held_monitor later ≡ held_monitor own
+      → length later.words ≡ length own.words → held_monitor later ≡ held_monitor own → (HoldsWords p own.held → HoldsWords p later.held)
       → IsKept p events (slice_set owns x later) locks qs messages held k place
-  kept_own kept x own later g l e f = record {
+  kept_own kept x own later g l e f h = record {
     fits = kept.fits;
     owns_count = length-set owns x later ∙ kept.owns_count;
     locks_count = kept.locks_count;
     queues_count = kept.queues_count;
     words = have_room p owns x own later kept.words g l e;
+    free = kept.free;
+    held_words = hold_words p owns x later l (h (kept.held_words x own g)) kept.held_words;
     queues = kept.queues;
     to_come = kept.to_come;
     holds =
@@ -190,14 +230,16 @@ module _ {p : Program} {events : Events} {owns : List Own} {locks : List Lock} {
 
   -- the lock that it holds changes too, and the locks
   pub kept_held : IsKept p events owns locks qs messages held k place → (x : ℕ) (own later : Own) (m : Option ℕ) (locks' : List Lock) → slice_get owns x ≡ Some own → x < length owns
-      → length later.words ≡ length own.words → held_monitor later ≡ m → IsBelow (length p.monitors) m → length locks' ≡ length locks
+      → length later.words ≡ length own.words → held_monitor later ≡ m → IsBelow (length p.monitors) m → HoldsWords p later.held → length locks' ≡ length locks → HaveWords p locks'
       → IsKept p events (slice_set owns x later) locks' qs messages (slice_set held x m) k place
-  kept_held kept x own later m locks' g l e f b n = record {
+  kept_held kept x own later m locks' g l e f b h n free = record {
     fits = kept.fits;
     owns_count = length-set owns x later ∙ kept.owns_count;
     locks_count = n ∙ kept.locks_count;
     queues_count = kept.queues_count;
     words = have_room p owns x own later kept.words g l e;
+    free = free;
+    held_words = hold_words p owns x later l h kept.held_words;
     queues = kept.queues;
     to_come = kept.to_come;
     holds = rw (kept.holds, ← f) (set_map held_monitor owns x later);
@@ -208,16 +250,18 @@ module _ {p : Program} {events : Events} {owns : List Own} {locks : List Lock} {
 
   -- and a task takes the oldest message of its source
   pub kept_take : IsKept p events owns locks qs messages held k place → (x : ℕ) (own later : Own) (q rest : Queue) → slice_get owns x ≡ Some own → x < length owns
-      → slice_get qs x ≡ Some q → length later.words ≡ length own.words → held_monitor later ≡ held_monitor own
+      → slice_get qs x ≡ Some q → length later.words ≡ length own.words → held_monitor later ≡ held_monitor own → (HoldsWords p own.held → HoldsWords p later.held)
       → waiting rest ≡ drop 1 (waiting q) → rest.lost ≡ q.lost → deque_capacity rest.waiting ≡ deque_capacity q.waiting
       → IsKept p events (slice_set owns x later) locks (slice_set qs x rest) messages held k place
-  kept_take kept x own later q rest g l at e f w n r =
-      let parts = kept_own kept x own later g l e f in record {
+  kept_take kept x own later q rest g l at e f h w n r =
+      let parts = kept_own kept x own later g l e f h in record {
         fits = kept.fits;
         owns_count = parts.owns_count;
         locks_count = kept.locks_count;
         queues_count = length-set qs x rest ∙ kept.queues_count;
         words = parts.words;
+        free = kept.free;
+        held_words = parts.held_words;
         queues = shorter p events k place qs x q rest kept.queues at (get_within qs x q at) w n r;
         to_come = kept.to_come;
         holds = parts.holds;

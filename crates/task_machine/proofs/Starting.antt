@@ -1,6 +1,6 @@
 -- What a running machine starts with.
 use Rattle.std.proofs.Common.{◌≡◌, ℕ, zero, suc, ◌+◌, ◌<◌, ◌≤◌, ℤ, pos, List, [], ◌∷◌, length, map, take, drop, replicate, Option, Some, None, slice_get, slice_index_or, refl, ap, sym, ◌∙◌, subst, arith, inl, inr}
-use Rattle.std.specs.Prelude.{All, min}
+use Rattle.std.specs.Prelude.{All, min, slice_index}
 use Rattle.std.specs.Option.{option_map}
 use Rattle.std.specs.VecDeque.{deque_capacity}
 use Rattle.std.proofs.lemmas.List.{length-map, length-replicate}
@@ -15,10 +15,10 @@ use Rattle.task_code.specs.declared.program.Task.{Task}
 use Rattle.task_code.specs.Program.{Program}
 use Rattle.task_code.specs.Fits.{Fits, FitsKind}
 use Rattle.task_code.specs.Own.{first_own, held_monitor}
-use Rattle.task_code.specs.Machine.{Free, first_queue}
+use Rattle.task_code.specs.Machine.{Lock, Free, first_queue}
 use Rattle.task_machine.specs.Queue.{Queue, waiting, lost, capped, IsQueue}
 use Rattle.task_machine.specs.Brought.{kind_in, depth_at}
-use Rattle.task_machine.specs.Kept.{IsKept, coming, signals}
+use Rattle.task_machine.specs.Kept.{IsKept, HasWords, coming, signals}
 use Rattle.task_machine.specs.Policy.{IsBelow}
 use Rattle.task_machine.specs.Start.{IsShallow, Starts}
 use Rattle.task_machine.proofs.Lists.{get_at, get_some, get_within, get_map}
@@ -40,6 +40,17 @@ map_same f g (x ∷ xs) (y ∷ ys) l h =
     let first : f x ≡ g y = h 0 x y refl refl in
     let rest : map f xs ≡ map g ys = map_same f g xs ys (omega arith) (λ i a b e d. h (suc i) a b e d) in
     ap (λ z. z ∷ map f xs) first ∙ ap (λ zs. g y ∷ zs) rest
+
+get_mapped : {X Y : Type 0} (f : X → Y) (xs : List X) (i : ℕ) (y : Y) → slice_get (map f xs) i ≡ Some y → (x : X) × (f x ≡ y)
+get_mapped f [] i y e = cc
+get_mapped f (x ∷ xs) zero y e = (x, cc)
+get_mapped f (x ∷ xs) (suc i) y e = get_mapped f xs i y e
+
+-- the words of each monitor are as many as it has
+free_start : (ms : List ℕ) (m : ℕ) (l : Lock) → slice_get (map (λ n. Free (replicate n (pos 0))) ms) m ≡ Some l → HasWords (slice_index ms m) l
+free_start [] m l e = cc
+free_start (n ∷ ms) zero l e = let f : Free (replicate n (pos 0)) ≡ l = cc in rw (← f) (length-replicate n (pos 0))
+free_start (n ∷ ms) (suc m) l e = free_start ms m l e
 
 module _ (p : Program) (events : Events) (qs : List Queue) (count : length qs ≡ length events.kinds)
     (each : (x : ℕ) (q : Queue) → slice_get qs x ≡ Some q → Starts (kind_in events.kinds x) (depth_at events.depths x) (coming (kind_in events.kinds x) x 0 events.entries) q) where
@@ -83,6 +94,10 @@ module _ (p : Program) (events : Events) (qs : List Queue) (count : length qs �
         let e : Some (first_own t) ≡ Some own = sym (get_map first_own p.tasks x ∙ ap (option_map first_own) at) ∙ there in
         let f : first_own t ≡ own = cc in
         rw (← f) (length-replicate t.room (pos 0));
+    free = free_start p.monitors;
+    held_words = λ x own at.
+        let t = get_mapped first_own p.tasks x own at in
+        rw (← t.1) tt;
     queues = λ x t q at there.
         let a = get_within qs x q there in
         let in_kinds : x < length events.kinds = omega (arith, a, count) in

@@ -325,6 +325,7 @@ impl Running {
         requires { m < length self.now.program.monitors }
         ensures words { option_copied result ≡ free_words_at (slice_get self.now.machine.locks m) }
         ensures locked { IfNone result ((t : ℕ) × (slice_get self.now.machine.locks m ≡ Some (HeldBy t))) }
+        ensures length { IfSome result (λ ws. length ws.now ≡ slice_index self.now.program.monitors m) }
     {
         match self.locks.get(m) {
             Some(lock) => lock.words(),

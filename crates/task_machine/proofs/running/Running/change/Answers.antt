@@ -4,7 +4,7 @@ use Rattle.std.proofs.Math.ListN.{length-set}
 use Rattle.task_code.specs.Own.{held_monitor}
 use Rattle.task_code.specs.Does.{on}
 use Rattle.task_machine.specs.Action.{changed, with_lock_of, without_held, with_message}
-use Rattle.task_machine.proofs.Kept.{kept_own, kept_held, kept_take, length_changed, held_changed, length_laid, read_is, get_read}
+use Rattle.task_machine.proofs.Kept.{kept_own, kept_held, kept_take, length_changed, held_changed, held_words_changed, length_laid, read_is, get_read}
 use Rattle.task_machine.proofs.running.Running.change.Goals as goal
 
 pub invariant_of-self : goal.invariant_of-self
@@ -13,7 +13,7 @@ invariant_of-self c =
     let r : c.args.x < length c.self.inside.program.tasks = rw (← c.self.view_is) at c.requires.task in
     let l : c.args.x < length c.self.inside.tasks.items = rw c.self.invariant.kept.owns_count r in
     let g = get_read c.self.inside.tasks.items c.args.x part l c.index_mut.ensures.value in
-    record { kept = rw c.change.ensures (kept_own c.self.invariant.kept c.args.x part (changed c.args.change part) g l (length_changed c.args.change part) (held_changed c.args.change part)); known = (r, tt) }
+    record { kept = rw c.change.ensures (kept_own c.self.invariant.kept c.args.x part (changed c.args.change part) g l (length_changed c.args.change part) (held_changed c.args.change part) (held_words_changed c.self.inside.program c.args.change part)); known = (r, tt) }
 
 pub returns : goal.returns
 returns c = λ own e.

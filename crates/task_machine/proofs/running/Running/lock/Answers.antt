@@ -1,12 +1,12 @@
 use Rattle.std.proofs.Common.{◌≡◌, ap, sym, ◌∙◌, refl, arith, subst, slice_get, slice_set, length, ◌<◌, ◌≤◌, ◌+◌, Some, None, List, ℤ, ℕ, Option}
 use Rattle.std.specs.Option.{option_map}
-use Rattle.std.specs.Prelude.{IsSomeAnd}
+use Rattle.std.specs.Prelude.{IsSomeAnd, slice_index}
 use Rattle.std.proofs.Math.ListN.{length-set}
 use Rattle.task_code.specs.Own.{held_monitor, Held}
 use Rattle.task_code.specs.Does.{on}
 use Rattle.task_machine.specs.Queue.{waiting}
 use Rattle.task_machine.specs.Action.{changed, with_lock_of, without_held, with_message}
-use Rattle.task_machine.proofs.Kept.{kept_own, kept_held, kept_take, length_changed, held_changed, length_laid, read_is, get_read, words_free, ready_within, held_is, none_held, oldest_is, waiting_taken, lost_taken}
+use Rattle.task_machine.proofs.Kept.{kept_own, kept_held, kept_take, length_changed, held_changed, length_laid, read_is, get_read, words_free, ready_within, held_is, none_held, have_words, free_words_has, oldest_is, waiting_taken, lost_taken}
 use Rattle.task_machine.proofs.running.Running.lock.Goals as goal
 
 pub invariant_of-self : goal.invariant_of-self
@@ -18,7 +18,11 @@ invariant_of-self c =
     let free = rw (← c.self.view_is) at c.requires.free in
     let m : c.args.monitor < length c.self.inside.locks.items = ready_within c.self.inside.locks.items _ _ free in
     let b : c.args.monitor < length c.self.inside.program.monitors = omega (arith, m, c.self.invariant.kept.locks_count) in
-    record { kept = rw c.lock.ensures (kept_held c.self.invariant.kept c.args.x part (with_lock_of c.args.monitor part c.in-Some.words) (Some c.args.monitor) _ g l refl refl b (length-set c.self.inside.locks.items c.args.monitor _)); known = (r, tt) }
+    let lock = c.index_mut.result.now in
+    let is = c.self.invariant.kept.free c.args.monitor lock (get_read c.self.inside.locks.items c.args.monitor lock m c.index_mut.ensures.value) in
+    let words = free_words_has (slice_index c.self.inside.program.monitors c.args.monitor) lock c.in-Some.words is c.in-Some.ensures.words in
+    let locks = have_words c.self.inside.program c.self.inside.locks.items c.args.monitor c.seize.new.self m (rw c.in-Some.ensures.held tt) c.self.invariant.kept.free in
+    record { kept = rw c.lock.ensures (kept_held c.self.invariant.kept c.args.x part (with_lock_of c.args.monitor part c.in-Some.words) (Some c.args.monitor) _ g l refl refl b words (length-set c.self.inside.locks.items c.args.monitor _) locks); known = (r, tt) }
 
 pub returns : goal.returns
 returns c = λ own e.

@@ -13,7 +13,7 @@ invariant_of-self c =
     let r : c.args.x < length c.self.inside.program.tasks = rw (← c.self.view_is) at c.requires.task in
     let l : c.args.x < length c.self.inside.tasks.items = rw c.self.invariant.kept.owns_count r in
     let g = get_read c.self.inside.tasks.items c.args.x part l c.index_mut.ensures.value in
-    record { kept = rw c.go_on.ensures (kept_own c.self.invariant.kept c.args.x part (on part) g l refl refl); known = (r, rw (← c.self.view_is) at c.requires.output) }
+    record { kept = rw c.go_on.ensures (kept_own c.self.invariant.kept c.args.x part (on part) g l refl refl (λ h. h)); known = (r, rw (← c.self.view_is) at c.requires.output) }
 
 pub returns : goal.returns
 returns c = λ own e.

@@ -23,7 +23,7 @@ invariant_of-self c =
     let within : c.args.at + t.0.message ≤ t.0.room = rw (← c.self.view_is) at c.requires.within t.0 t.1 in
     let fits : c.args.at + length c.in-Some.message ≤ length part.words =
     message_fits c.self.invariant.kept c.args.x c.args.at t.0 part q c.in-Some.message t.1 g at c.in-Some.ensures.first within in
-    record { kept = rw c.give.ensures (kept_take c.self.invariant.kept c.args.x part (with_message c.args.at part c.in-Some.message) q c.take.new.self g l at (length_laid c.args.at c.in-Some.message part.words fits) refl c.in-Some.ensures.rest c.in-Some.ensures.lost c.in-Some.ensures.capacity); known = (r, tt) }
+    record { kept = rw c.give.ensures (kept_take c.self.invariant.kept c.args.x part (with_message c.args.at part c.in-Some.message) q c.take.new.self g l at (length_laid c.args.at c.in-Some.message part.words fits) refl (λ h. h) c.in-Some.ensures.rest c.in-Some.ensures.lost c.in-Some.ensures.capacity); known = (r, tt) }
 
 pub returns : goal.returns
 returns c = λ own e.

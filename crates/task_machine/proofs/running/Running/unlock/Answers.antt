@@ -5,8 +5,9 @@ use Rattle.std.proofs.Math.ListN.{length-set}
 use Rattle.task_code.specs.Own.{held_monitor, Held}
 use Rattle.task_code.specs.Does.{on}
 use Rattle.task_machine.specs.Queue.{waiting}
+use Rattle.task_machine.specs.Kept.{HoldsWords}
 use Rattle.task_machine.specs.Action.{changed, with_lock_of, without_held, with_message}
-use Rattle.task_machine.proofs.Kept.{kept_own, kept_held, kept_take, length_changed, held_changed, length_laid, read_is, get_read, words_free, ready_within, held_is, none_held, oldest_is, waiting_taken, lost_taken}
+use Rattle.task_machine.proofs.Kept.{kept_own, kept_held, kept_take, length_changed, held_changed, length_laid, read_is, get_read, words_free, ready_within, held_is, none_held, have_words, oldest_is, waiting_taken, lost_taken}
 use Rattle.task_machine.proofs.running.Running.unlock.Goals as goal
 
 pub index_mut-requires-in-Some : goal.index_mut-requires-in-Some
@@ -36,7 +37,14 @@ invariant_of-self c =
     let r : c.args.x < length c.self.inside.program.tasks = rw (← c.self.view_is) at c.requires.task in
     let l : c.args.x < length c.self.inside.tasks.items = rw c.self.invariant.kept.owns_count r in
     let g = get_read c.self.inside.tasks.items c.args.x part l c.index_mut.ensures.value in
-    record { kept = rw c.unlock.ensures.part (kept_held c.self.invariant.kept c.args.x part (without_held part) None _ g l refl refl tt (length-set c.self.inside.locks.items c.in-Some.monitor _)); known = (r, tt) }
+    let have = rw (← c.self.view_is) at c.requires.held in
+    let h = held_is part.held (c.in-Some.monitor, c.in-Some.words) c.in-Some.ensures.held in
+    let P : Option Held → Type 0 = λ o. IsSomeAnd (option_map (λ h. h.monitor) o) (λ m. m < length c.self.inside.program.monitors) in
+    let b : c.in-Some.monitor < length c.self.inside.program.monitors = subst P h (have part g) in
+    let m : c.in-Some.monitor < length c.self.inside.locks.items = omega (arith, b, c.self.invariant.kept.locks_count) in
+    let words = subst (λ (o : Option Held). HoldsWords c.self.inside.program o) h (c.self.invariant.kept.held_words c.args.x part g) in
+    let locks = have_words c.self.inside.program c.self.inside.locks.items c.in-Some.monitor c.free.result m (rw c.free.ensures words) c.self.invariant.kept.free in
+    record { kept = rw c.unlock.ensures.part (kept_held c.self.invariant.kept c.args.x part (without_held part) None _ g l refl refl tt tt (length-set c.self.inside.locks.items c.in-Some.monitor _) locks); known = (r, tt) }
 
 pub returns : goal.returns
 returns c = λ own e.
