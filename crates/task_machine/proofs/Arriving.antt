@@ -1,7 +1,6 @@
 -- What a running machine keeps when an entry of the record comes.
-use Rattle.std.proofs.Common.{◌≡◌, ℕ, zero, suc, ◌+◌, ◌<◌, ◌≤◌, ◌^◌, ℤ, pos, Bool, true, false, cond, List, [], ◌∷◌, ◌++◌, length, map, take, drop, Option, Some, None, slice_get, slice_index_or, slice_set, refl, ap, sym, ◌∙◌, subst, arith, add-one, inl, inr, length-append}
+use Rattle.std.proofs.Common.{◌≡◌, ℕ, zero, suc, ◌+◌, ◌<◌, ◌≤◌, ◌^◌, ℤ, pos, Bool, true, false, cond, List, [], ◌∷◌, ◌++◌, length, take, drop, Option, Some, None, slice_get, refl, ap, sym, ◌∙◌, subst, arith, add-one, inl, inr, length-append}
 use Rattle.std.specs.Prelude.{fold, All, ◌==◌}
-use Rattle.std.specs.Option.{option_map}
 use Rattle.std.specs.VecDeque.{deque_capacity}
 use Rattle.std.proofs.lemmas.Bool.{cases_eq}
 use Rattle.std.proofs.lemmas.Bool.Decides.{nat_tests}
@@ -13,12 +12,12 @@ use Rattle.tower_syntax.specs.Arch.{Entry, tick, signal, Events}
 use Rattle.tower_syntax.specs.Arrival.{ticks, is_tick, is_full, is_due}
 use Rattle.task_code.specs.declared.program.Task.{Task}
 use Rattle.task_code.specs.Program.{Program}
-use Rattle.task_code.specs.Fits.{Fits, FitsKind, FitsSignal, FitsEntry}
-use Rattle.task_code.specs.Own.{Own, held_monitor}
+use Rattle.task_code.specs.Fits.{FitsKind, FitsSignal, FitsEntry}
+use Rattle.task_code.specs.Own.{Own}
 use Rattle.task_code.specs.Machine.{Lock, Machine, bring, received}
 use Rattle.task_machine.specs.Queue.{Queue, waiting, lost, capped, IsQueue}
 use Rattle.task_machine.specs.Brought.{with_queues, depth_at, kind_in, CanBring, Brought, tick_messages}
-use Rattle.task_machine.specs.Kept.{HaveRoom, AreQueues, IsKept, coming, signals, kind_of, depth_of}
+use Rattle.task_machine.specs.Kept.{IsKept, coming, signals, kind_of, depth_of}
 use Rattle.task_machine.specs.Arriving.{IsSignal}
 use Rattle.task_machine.specs.View.{machine_of}
 use Rattle.task_machine.proofs.Lists.{get_at, get_some, get_within, drop_at}

@@ -1,5 +1,5 @@
 -- What the parts of the instruction table are, where it is known what they split on.
-use Rattle.std.proofs.Common.{◌≡◌, ℕ, zero, suc, ◌+◌, ◌<◌, ◌≤◌, ℤ, pos, negsuc, Bool, true, false, ◌&&◌, List, [], ◌∷◌, length, drop, Option, Some, None, slice_get, nat_lt, nat_le, ◌==◌, slice_set, slice_index_or, is_some, ◌≤ℤ◌, ◌<ℤ◌, ◌^◌, refl, ap, sym, ◌∙◌, arith, nat_abs, inl, inr, ◌⊎◌}
+use Rattle.std.proofs.Common.{◌≡◌, ℕ, zero, suc, ◌+◌, ◌<◌, ◌≤◌, ℤ, pos, negsuc, Bool, true, false, ◌&&◌, List, [], ◌∷◌, length, drop, Option, Some, None, slice_get, nat_lt, nat_le, ◌==◌, slice_set, slice_index_or, is_some, ◌≤ℤ◌, ◌<ℤ◌, ◌^◌, refl, ap, ◌∙◌, arith, nat_abs, inl, inr, ◌⊎◌}
 use Rattle.task_code.specs.declared.program.Buffer.{Buffer}
 use Rattle.task_code.specs.Own.{Filled, Held, Own}
 use Rattle.task_code.specs.declared.program.Task.{Task}

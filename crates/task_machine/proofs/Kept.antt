@@ -1,6 +1,6 @@
 -- What a running machine keeps stays, whatever a task does.
-use Rattle.std.proofs.Common.{◌≡◌, ℕ, zero, suc, ◌+◌, ◌-◌, ◌<◌, ◌≤◌, ℤ, List, [], ◌∷◌, ◌++◌, length, map, take, drop, Option, Some, None, slice_get, slice_index_or, slice_set, refl, ap, sym, ◌∙◌, subst, arith, inl, inr, length-drop, length-append}
-use Rattle.std.specs.Prelude.{All, min, IsSomeAnd, slice_index}
+use Rattle.std.proofs.Common.{◌≡◌, ℕ, zero, suc, ◌+◌, ◌<◌, ◌≤◌, ℤ, List, [], ◌∷◌, length, map, drop, Option, Some, None, slice_get, slice_index_or, slice_set, refl, ap, sym, ◌∙◌, subst, arith, inl, inr, length-drop, length-append}
+use Rattle.std.specs.Prelude.{All, IsSomeAnd, slice_index}
 use Rattle.std.specs.Option.{option_map}
 use Rattle.std.specs.VecDeque.{deque_capacity}
 use Rattle.std.proofs.Math.ListN.{length-set}
@@ -11,14 +11,14 @@ use Rattle.tower_syntax.specs.Arch.{Events}
 use Rattle.task_code.specs.declared.program.Task.{Task}
 use Rattle.task_code.specs.Program.{Program}
 use Rattle.task_code.specs.Own.{Own, Held, held_monitor}
-use Rattle.task_code.specs.Does.{laid, on}
+use Rattle.task_code.specs.Does.{laid}
 use Rattle.task_code.specs.Machine.{Lock, Free, HeldBy, words_of}
 use Rattle.task_code.specs.Standing.{at_lock, IsReady}
 use Rattle.task_machine.specs.Lock.{free_words}
 use Rattle.task_machine.specs.Policy.{IsBelow}
 use Rattle.task_machine.specs.declared.action.Change.{Change}
 use Rattle.task_machine.specs.declared.action.Change.TheVariants.{Pop, Push, Store, StoreHeld, Jump, Call, Return, Fill, Count}
-use Rattle.task_machine.specs.Action.{changed, with_held_word, with_message}
+use Rattle.task_machine.specs.Action.{changed, with_held_word}
 use Rattle.task_machine.specs.Queue.{Queue, waiting, lost, capped, IsQueue}
 use Rattle.task_machine.specs.Kept.{HaveRoom, HasWords, HaveWords, HoldsWords, HoldWords, AreQueues, IsKept, coming, kind_of, depth_of}
 use Rattle.task_machine.proofs.Lists.{get_at, get_some, get_within, set_same, get_map, set_map}

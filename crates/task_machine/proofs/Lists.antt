@@ -1,5 +1,5 @@
 -- Lists, read and written by place.
-use Rattle.std.proofs.Common.{◌≡◌, ℕ, zero, suc, ◌+◌, ◌<◌, ◌≤◌, List, [], ◌∷◌, ◌++◌, length, map, take, drop, Option, Some, None, slice_get, slice_index_or, slice_set, refl, ap, sym, ◌∙◌, arith, reverse, ◌-◌, inl, inr, ◌⊎◌, length-drop}
+use Rattle.std.proofs.Common.{◌≡◌, ℕ, zero, suc, ◌<◌, ◌≤◌, List, [], ◌∷◌, ◌++◌, length, map, take, drop, Some, None, slice_get, slice_index_or, slice_set, refl, ap, sym, ◌∙◌, arith, reverse, ◌-◌, inl, inr, ◌⊎◌, length-drop}
 use Rattle.std.proofs.lemmas.List.{reverse-append, take-append-drop, length-reverse, drop_all}
 use Rattle.std.proofs.lemmas.Bool.{cases_lt}
 use Rattle.std.proofs.Math.Seq.{drop-append_seam}

@@ -1,5 +1,5 @@
 -- How tasks stand, read place by place.
-use Rattle.std.proofs.Common.{◌≡◌, ℕ, zero, suc, ◌+◌, ◌<◌, ◌≤◌, ℤ, Bool, true, false, List, [], ◌∷◌, length, map, drop, Option, Some, None, slice_get, slice_index_or, refl, ap, sym, ◌∙◌, arith, inl, inr, ◌⊎◌}
+use Rattle.std.proofs.Common.{◌≡◌, ℕ, zero, suc, ◌<◌, ◌≤◌, ℤ, Bool, true, false, List, [], ◌∷◌, length, drop, Option, Some, None, slice_get, slice_index_or, refl, sym, ◌∙◌, arith}
 use Rattle.std.specs.Prelude.{IsSomeAnd, ◌&&◌}
 use Rattle.std.specs.Option.{option_map}
 use Rattle.tower_syntax.specs.declared.arch.SourceKind.{SourceKind}
@@ -9,9 +9,8 @@ use Rattle.tower_syntax.specs.Arch.{Events}
 use Rattle.task_code.specs.declared.program.Task.{Task}
 use Rattle.task_code.specs.Program.{Program}
 use Rattle.task_code.specs.Own.{Own, Held}
-use Rattle.task_code.specs.Does.{Does}
 use Rattle.task_code.specs.Machine.{Machine}
-use Rattle.task_code.specs.Standing.{Standing, IsReady, is_clear, clear_if_init, inits_clear, standing_of}
+use Rattle.task_code.specs.Standing.{IsReady, is_clear, clear_if_init, inits_clear, standing_of}
 use Rattle.task_machine.specs.Action.{unlocks}
 use Rattle.task_machine.proofs.Lists.{get_at, drop_at}
 use Rattle.std.proofs.lemmas.List.{drop_all}

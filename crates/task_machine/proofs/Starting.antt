@@ -1,14 +1,12 @@
 -- What a running machine starts with.
-use Rattle.std.proofs.Common.{◌≡◌, ℕ, zero, suc, ◌+◌, ◌<◌, ◌≤◌, ℤ, pos, List, [], ◌∷◌, length, map, take, drop, replicate, Option, Some, None, slice_get, slice_index_or, refl, ap, sym, ◌∙◌, subst, arith, inl, inr}
-use Rattle.std.specs.Prelude.{All, min, slice_index}
+use Rattle.std.proofs.Common.{◌≡◌, ℕ, zero, suc, ◌<◌, ℤ, pos, List, [], ◌∷◌, length, map, replicate, Option, Some, None, slice_get, slice_index_or, refl, ap, sym, ◌∙◌, subst, arith}
+use Rattle.std.specs.Prelude.{All, slice_index}
 use Rattle.std.specs.Option.{option_map}
-use Rattle.std.specs.VecDeque.{deque_capacity}
 use Rattle.std.proofs.lemmas.List.{length-map, length-replicate}
 use Rattle.std.proofs.lemmas.List.Elements.{All-cons}
 use Rattle.tower_syntax.specs.declared.arch.SourceKind.{SourceKind}
 use Rattle.tower_syntax.specs.declared.arch.SourceKind.TheVariants as source
 use Rattle.tower_syntax.specs.declared.event.Entry.{Entry as EntryValue}
-use Rattle.tower_syntax.specs.declared.event.Entry.TheVariants as entry
 use Rattle.tower_syntax.specs.View.{entry_of}
 use Rattle.tower_syntax.specs.Arch.{Events}
 use Rattle.task_code.specs.declared.program.Task.{Task}

@@ -1,6 +1,6 @@
 -- What a machine that runs keeps, with what it has of its own: its queues, the messages of the signals that are to
 -- come, and the locks that are held.
-use Rattle.std.specs.Prelude.{◌≡◌, ◌==◌, ℕ, suc, ◌+◌, ◌≤◌, ℤ, List, [], ◌∷◌, map, take, drop, length, All, cond, min, Option, Some, None, slice_get, slice_index, slice_index_or}
+use Rattle.std.specs.Prelude.{◌≡◌, ◌==◌, ℕ, suc, ◌+◌, ◌≤◌, ℤ, List, [], ◌∷◌, map, take, drop, length, All, cond, Option, Some, None, slice_get, slice_index, slice_index_or}
 use Rattle.tower_types.specs.Value.{flat}
 use Rattle.tower_syntax.specs.declared.arch.SourceKind.{SourceKind}
 use Rattle.tower_syntax.specs.declared.arch.SourceKind.TheVariants as kind

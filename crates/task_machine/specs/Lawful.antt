@@ -1,8 +1,8 @@
 -- That the rules for turns keep the law.
-use Rattle.std.proofs.Common.{◌≡◌, ◌==◌, ℕ, zero, suc, ◌+◌, ◌<◌, ◌≤◌, ◌%◌, List, [], ◌∷◌, map, Bool, true, false, Option, Some, None, length, slice_get, refl, ap, sym, ◌∙◌, arith, inl, inr, ◌⊎◌, cond, slice_index_or, subst}
-use Rattle.std.specs.Prelude.{slice_index, filter, Contains, fold, max}
+use Rattle.std.proofs.Common.{◌≡◌, ◌==◌, ℕ, zero, suc, ◌+◌, ◌<◌, ◌%◌, List, [], ◌∷◌, map, Bool, true, false, Option, Some, length, slice_get, refl, ap, sym, ◌∙◌, arith, inl, inr, ◌⊎◌, cond, slice_index_or, subst}
+use Rattle.std.specs.Prelude.{slice_index, filter, fold, max}
 use Rattle.task_code.specs.Policy.{places_from, most_urgent, at_turn, greatest, fixed_names, any_names}
-use Rattle.task_machine.specs.Policy.{AreMonitors, IsLawful}
+use Rattle.task_machine.specs.Policy.{IsLawful}
 use Rattle.std.proofs.lemmas.Bool.{cases_lt}
 use Rattle.std.proofs.lemmas.Bool.Decides.{nat_tests}
 use Rattle.std.proofs.Math.Nat.{mod-lt}

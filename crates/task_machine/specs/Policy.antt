@@ -1,6 +1,5 @@
 -- What a rule for turns keeps.
 use Rattle.std.specs.Prelude.{◌≡◌, ◌==◌, ℕ, ◌<◌, List, filter, All, Bool, true, Option, Some, None, slice_get, slice_index}
-use Rattle.task_code.specs.Policy.{places_from, most_urgent}
 
 abbrev pub IsBelow : ℕ → Option ℕ → Type 0
 IsBelow n None = Unit {0}

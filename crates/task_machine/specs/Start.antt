@@ -1,5 +1,5 @@
 -- What a running machine starts with.
-use Rattle.std.specs.Prelude.{◌≡◌, ℕ, ◌+◌, ◌≤◌, List, length, Option}
+use Rattle.std.specs.Prelude.{◌≡◌, ℕ, ◌+◌, ◌≤◌, length, Option}
 use Rattle.std.specs.VecDeque.{deque_capacity}
 use Rattle.tower_types.specs.Value.{value_depth}
 use Rattle.tower_syntax.specs.declared.arch.SourceKind.{SourceKind}

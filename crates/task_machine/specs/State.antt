@@ -1,7 +1,6 @@
 -- A machine that runs, and its steps.
-use Rattle.std.specs.Prelude.{◌≡◌, ℕ, ℤ, List, [], ◌∷◌, map, Bool, true, Option, Some, None, slice_get}
+use Rattle.std.specs.Prelude.{◌≡◌, ℕ, ℤ, List, map, Bool, Option, Some, None, slice_get}
 use Rattle.tower_syntax.specs.declared.event.Events.{Events as EventsValue}
-use Rattle.tower_syntax.specs.declared.event.Mark.{Mark}
 use Rattle.tower_syntax.specs.View.{events_of}
 use Rattle.tower_syntax.specs.Arch.{Entry}
 use Rattle.task_code.specs.Program.{Program}

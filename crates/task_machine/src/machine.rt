@@ -1,4 +1,5 @@
 ghost use Rattle.std.specs.Prelude.{◌≡◌, length};
+ghost use Rattle.std.specs.List.{list_any};
 ghost use Rattle.task_machine.specs.State.{ready};
 
 use crate::policy::Policy;
@@ -50,6 +51,7 @@ impl Model for Machine {
 
 impl Machine {
     ghost use Rattle.std.specs.Prelude.{◌≡◌, ◌<◌, ◌↔◌, IfSome, IfNone, IfOk, true, List, ℕ, ℤ, Some, length, slice_get, slice_index};
+    ghost use Rattle.std.specs.List.{list_any};
     ghost use Rattle.std.specs.Option.{option_map, option_copied};
     ghost use Rattle.tower_syntax.specs.View.{events_of};
     ghost use Rattle.task_code.specs.Fits.{Fits};
@@ -106,6 +108,13 @@ impl Machine {
         self.running.standing(task as usize)
     }
 
+    /// Is a task ready.
+    pub fn is_any_ready(&self) -> bool
+        ensures { result ≡ list_any (λ b. b) (ready self.now) }
+    {
+        is_any_ready(&self.running)
+    }
+
     /// The words of a monitor. `None` comes exactly where a task holds its lock.
     pub fn monitor(&self, m: u32) -> Option<&[i128]>
         requires { m < length self.now.program.monitors }
@@ -155,6 +164,18 @@ impl Machine {
     {
         self.running.lost(source as usize)
     }
+}
+
+/// Is a task ready.
+fn is_any_ready(running: &Running) -> bool
+    ensures { result ≡ list_any (λ b. b) (ready running.now) }
+{
+    let clear = running.inits_clear();
+    let mut any = false;
+    for task in 0..running.holds().len() {
+        any |= running.stands(task, clear).is_ready();
+    }
+    any
 }
 
 /// Notes which tasks are ready.

@@ -44,11 +44,11 @@ abbrev pub events_of : Small → ℕ → Events
 events_of s n = record { kinds = Period s.ms ∷ []; depths = None ∷ []; entries = tick_entries n }
 
 -- of the run of a small file's program over so many ticks
-abbrev pub small_run_text : Small → ℕ → Bytes
+unfoldable pub small_run_text : Small → ℕ → Bytes
 small_run_text s n = run_text (arch_of s) (code_of (arch_of s)) (events_of s n) [] step_limit None
 
 -- does that run meet its limit
-abbrev pub small_run_stops : Small → ℕ → Bool
+unfoldable pub small_run_stops : Small → ℕ → Bool
 small_run_stops s n = (plan (fixed (code_of (arch_of s))) (code_of (arch_of s)) (events_of s n) [] step_limit).stopped
 
 abbrev pub status_of_run : Bool → Status

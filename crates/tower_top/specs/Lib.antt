@@ -6,3 +6,4 @@ pub mod SmallView
 pub mod Status
 pub mod Ticks
 pub mod Words
+pub mod Going

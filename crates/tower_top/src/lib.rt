@@ -3,12 +3,18 @@
 
 mod arch;
 mod compile;
+mod ending;
 mod inputs;
 pub mod laws;
 mod run;
 mod small;
 mod status;
 mod ticks;
+mod top;
 mod words;
 
 pub use status::Status;
+pub use top::tower;
+
+#[cfg(test)]
+mod tests;

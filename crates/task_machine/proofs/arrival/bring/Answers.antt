@@ -1,5 +1,4 @@
-use Rattle.std.proofs.Common.{◌≡◌, ◌<◌, length, ap, sym, ◌∙◌, refl, subst, slice_get, slice_set, Some, add-one}
-use Rattle.task_machine.specs.Queue.{Queue}
+use Rattle.std.proofs.Common.{◌≡◌, sym, ◌∙◌, add-one}
 use Rattle.task_machine.specs.Brought.{depth_at, Brought}
 use Rattle.task_machine.proofs.Kept.{get_read, read_is, get_set_same, get_set_other}
 use Rattle.task_machine.proofs.Brought.{bring_is}

@@ -1,13 +1,11 @@
-use Rattle.std.proofs.Common.{drop, slice_index_or, ◌≡◌, ℕ, ◌+◌, ◌<◌, ◌≤◌, length, ap, sym, ◌∙◌, refl, subst, slice_get, slice_set, Some, add-one, arith, true, false, inl, inr, pos, [], ◌∷◌}
+use Rattle.std.proofs.Common.{drop, slice_index_or, ◌≡◌, ◌+◌, ◌<◌, ◌≤◌, length, ap, sym, ◌∙◌, slice_get, Some, arith, true, false, inl, inr}
 use Rattle.std.specs.Prelude.{fold}
 use Rattle.std.proofs.lemmas.Bool.{cases_eq}
 use Rattle.tower_syntax.specs.declared.arch.SourceKind.TheVariants as kind
 use Rattle.tower_syntax.specs.Arrival.{is_due}
 use Rattle.task_code.specs.Machine.{Machine, bring}
-use Rattle.task_machine.specs.Queue.{Queue}
-use Rattle.task_machine.specs.Brought.{with_queues, depth_at, kind_in, Brought, tick_messages}
+use Rattle.task_machine.specs.Brought.{with_queues, kind_in, tick_messages}
 use Rattle.task_machine.proofs.Lists.{get_at, get_within}
-use Rattle.task_machine.proofs.Kept.{get_read, read_is, get_set_same, get_set_other}
 use Rattle.task_machine.proofs.Brought.{due_step, not_due_step, index_any}
 use Rattle.task_machine.proofs.arrival.bring_tick.Goals as goal
 use Rattle.task_machine.proofs.arrival.bring_tick.Goals.{then-is_due, else-is_due}

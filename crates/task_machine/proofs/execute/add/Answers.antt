@@ -1,6 +1,4 @@
-use Rattle.std.proofs.Common.{◌≡◌, ap, sym, ◌∙◌, rules, arith, FitsSigned, slice_get, Some, None, true, false, ℤ, ℕ, inl, inr, refl, length-drop, to_z, of_z, add-one, nat_lt}
-use Rattle.std.specs.Int.{w128}
-use Rattle.std.proofs.lemmas.Int.{to_z-of_z, ints}
+use Rattle.std.proofs.Common.{sym, ◌∙◌, arith, add-one}
 use Rattle.task_machine.proofs.Combinators.{need_true, need_false, is_under, is_not_under}
 use Rattle.task_machine.proofs.execute.add.Goals as goal
 

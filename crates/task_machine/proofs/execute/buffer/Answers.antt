@@ -1,6 +1,4 @@
-use Rattle.std.proofs.Common.{◌≡◌, ap, sym, ◌∙◌, rules, arith, FitsSigned, slice_get, Some, None, true, false, ℤ, ℕ, inl, inr, refl, length-drop, to_z, of_z, add-one, nat_lt}
-use Rattle.std.specs.Int.{w128}
-use Rattle.std.proofs.lemmas.Int.{to_z-of_z, ints}
+use Rattle.std.proofs.Common.{sym}
 use Rattle.task_machine.proofs.Combinators.{no_buffer_shape, no_buffer_filled, buffer_is, count_is}
 use Rattle.task_machine.proofs.execute.buffer.Goals as goal
 

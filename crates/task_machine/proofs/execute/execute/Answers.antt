@@ -1,7 +1,4 @@
-use Rattle.std.proofs.Common.{◌≡◌, ap, sym, ◌∙◌, rules, arith, FitsSigned, slice_get, Some, None, true, false, ℤ, ℕ, inl, inr, refl, length-drop, to_z, of_z, add-one, nat_lt, subst}
-use Rattle.std.specs.Int.{w128}
-use Rattle.std.proofs.lemmas.Int.{to_z-of_z, ints}
-use Rattle.task_machine.proofs.Combinators.{need_true}
+use Rattle.std.proofs.Common.{◌∙◌, subst}
 use Rattle.task_code.specs.Rules.{IsInstr}
 use Rattle.task_code.specs.declared.program.Instr.{Instr}
 use Rattle.task_machine.proofs.execute.execute.Goals as goal

@@ -1,4 +1,4 @@
-use Rattle.std.proofs.Common.{◌≡◌, ap, sym, ◌∙◌, rules, arith, FitsSigned, slice_get, Some, None, true, false, ℤ, ℕ, inl, inr, refl, length-drop}
+use Rattle.std.proofs.Common.{arith, FitsSigned, inl, inr}
 use Rattle.std.specs.Int.{w128}
 use Rattle.std.proofs.lemmas.Int.{to_z-of_z, ints}
 use Rattle.task_machine.proofs.Combinators.{index_is, index_is_not}

@@ -1,6 +1,6 @@
-use Rattle.std.proofs.Common.{◌≡◌, ap, sym, ◌∙◌, rules, arith, FitsSigned, slice_get, Some, None, true, false, ℤ, ℕ, inl, inr, refl, length-drop, to_z, of_z}
+use Rattle.std.proofs.Common.{ap, sym, ◌∙◌, rules, FitsSigned, to_z, of_z}
 use Rattle.std.specs.Int.{w128}
-use Rattle.std.proofs.lemmas.Int.{to_z-of_z, ints}
+use Rattle.std.proofs.lemmas.Int.{to_z-of_z}
 use Rattle.task_machine.proofs.Combinators.{popped_some, popped_none, at_zero_same, at_zero_other}
 use Rattle.task_machine.proofs.execute.jump_at_zero.Goals as goal
 

@@ -1,5 +1,4 @@
-use Rattle.std.proofs.Common.{sym, ◌∙◌, arith, slice_index_or, length, refl, ◌<◌, ◌≤◌}
-use Rattle.task_code.specs.Does.{executes}
+use Rattle.std.proofs.Common.{sym, ◌∙◌, length, ◌<◌, ◌≤◌}
 use Rattle.task_machine.proofs.Combinators.{does_at, does_past}
 use Rattle.task_machine.proofs.execute.next.Goals as goal
 

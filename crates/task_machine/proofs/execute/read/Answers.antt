@@ -1,6 +1,6 @@
-use Rattle.std.proofs.Common.{◌≡◌, ap, sym, ◌∙◌, rules, arith, FitsSigned, slice_get, Some, None, true, false, ℤ, ℕ, inl, inr, refl, length-drop, to_z, of_z, add-one, nat_lt}
+use Rattle.std.proofs.Common.{sym, ◌∙◌, rules, FitsSigned}
 use Rattle.std.specs.Int.{w128}
-use Rattle.std.proofs.lemmas.Int.{to_z-of_z, ints}
+use Rattle.std.proofs.lemmas.Int.{to_z-of_z}
 use Rattle.task_machine.proofs.Combinators.{popped_two, popped_none, popped_two_none}
 use Rattle.task_machine.proofs.execute.read.Goals as goal
 

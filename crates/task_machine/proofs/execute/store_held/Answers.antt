@@ -1,9 +1,9 @@
-use Rattle.std.proofs.Common.{◌≡◌, ap, sym, ◌∙◌, rules, arith, FitsSigned, slice_get, Some, None, true, false, ℤ, ℕ, inl, inr, refl, length-drop, to_z, of_z}
+use Rattle.std.proofs.Common.{sym, ◌∙◌, rules, FitsSigned}
 use Rattle.std.specs.Int.{w128}
-use Rattle.std.proofs.lemmas.Int.{to_z-of_z, ints}
+use Rattle.std.proofs.lemmas.Int.{to_z-of_z}
 use Rattle.task_machine.proofs.Combinators.{popped_two, popped_none, popped_two_none, not_holding, store_holding}
 use Rattle.task_machine.proofs.execute.store_held.Goals as goal
-use Rattle.std.proofs.Common.{◌∷◌, drop}
+use Rattle.std.proofs.Common.{drop}
 use Rattle.task_code.specs.Does.{Private, on}
 
 pub returns-in_err-i-clause-effect : goal.returns-in_err-i-clause-effect

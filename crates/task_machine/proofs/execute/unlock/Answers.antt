@@ -1,6 +1,4 @@
-use Rattle.std.proofs.Common.{◌≡◌, ap, sym, ◌∙◌, rules, arith, FitsSigned, slice_get, Some, None, true, false, ℤ, ℕ, inl, inr, refl, length-drop, to_z, of_z, add-one, nat_lt, subst}
-use Rattle.std.specs.Int.{w128}
-use Rattle.std.proofs.lemmas.Int.{to_z-of_z, ints}
+use Rattle.std.proofs.Common.{sym}
 use Rattle.task_machine.proofs.Combinators.{not_holding, unlock_holding}
 use Rattle.task_machine.proofs.execute.unlock.Goals as goal
 

@@ -1,4 +1,4 @@
-use Rattle.std.proofs.Common.{◌≡◌, map, drop, ℕ, max, fold}
+use Rattle.std.proofs.Common.{◌≡◌, map, drop, max, fold}
 use Rattle.std.specs.Prelude.{slice_index}
 use Rattle.task_code.specs.Policy.{places_from, greatest}
 use Rattle.task_machine.proofs.policy.top_priority.Given as goal

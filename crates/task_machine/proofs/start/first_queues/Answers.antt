@@ -1,5 +1,4 @@
-use Rattle.std.proofs.Common.{◌≡◌, ℕ, ◌+◌, sym, ◌∙◌, subst, map, inl, inr, arith, length, length-append, slice_index_or}
-use Rattle.tower_syntax.specs.declared.arch.SourceKind.{SourceKind}
+use Rattle.std.proofs.Common.{◌≡◌, ℕ, sym, ◌∙◌, subst, map, inl, inr, arith, length-append, slice_index_or}
 use Rattle.tower_syntax.specs.declared.arch.SourceKind.TheVariants as kind
 use Rattle.tower_syntax.specs.View.{entry_of}
 use Rattle.task_machine.specs.Queue.{Queue}

@@ -1,4 +1,4 @@
-use Rattle.std.proofs.Common.{◌≡◌, subst}
+use Rattle.std.proofs.Common.{subst}
 use Rattle.tower_syntax.specs.declared.event.Entry.{Entry}
 use Rattle.tower_syntax.specs.View.{entry_of}
 use Rattle.task_machine.specs.Start.{IsShallow}

@@ -1,7 +1,6 @@
-use Rattle.std.proofs.Common.{◌≡◌, ℕ, ◌<◌, true, Bool, length, ap, sym, ◌∙◌, subst, refl, Option, Some, None, slice_get}
+use Rattle.std.proofs.Common.{◌≡◌, ℕ, length, ap, sym, ◌∙◌, subst, refl, Option, Some, None}
 use Rattle.task_machine.specs.Policy.{IsLawful}
-use Rattle.task_machine.specs.State.{State, Goes, ready, holds, standing_in}
-use Rattle.task_machine.specs.declared.machine.Went.{Went}
+use Rattle.task_machine.specs.State.{Goes, ready, holds}
 use Rattle.task_machine.specs.declared.machine.Went.TheVariants as went
 use Rattle.task_machine.proofs.Going.{length_ready, ready_in, ready_stands, are_monitors}
 use Rattle.task_machine.proofs.machine.Machine.go.Goals as goal

@@ -1,8 +1,8 @@
 -- Without priorities all ready tasks have the greatest one.
-use Rattle.std.proofs.Common.{◌≡◌, ◌==◌, ℕ, List, [], ◌∷◌, map, cond, max, refl, ap, sym, ◌∙◌, arith, true, false}
-use Rattle.std.specs.Prelude.{slice_index, filter, fold}
+use Rattle.std.proofs.Common.{◌≡◌, ◌==◌, ℕ, List, [], ◌∷◌, map, refl, ap, ◌∙◌, arith, true}
+use Rattle.std.specs.Prelude.{slice_index, filter}
 use Rattle.std.proofs.lemmas.Bool.Decides.{nat_tests}
-use Rattle.task_code.specs.Policy.{most_urgent, at_turn, greatest, places_from}
+use Rattle.task_code.specs.Policy.{at_turn, greatest, places_from}
 use Rattle.task_machine.proofs.policy.AnyPolicy.pick.Goals as goal
 
 none_greatest : (xs : List ℕ) → greatest (map (slice_index []) xs) ≡ 0

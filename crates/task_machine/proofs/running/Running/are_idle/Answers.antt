@@ -1,5 +1,4 @@
-use Rattle.std.proofs.Common.{◌≡◌, ℕ, ◌<◌, true, false, Bool, length, ap, sym, ◌∙◌, refl, add-one}
-use Rattle.std.specs.Prelude.{◌&&◌}
+use Rattle.std.proofs.Common.{◌≡◌, ◌<◌, true, false, length, ap, sym, ◌∙◌, add-one}
 use Rattle.task_code.specs.Standing.{is_idle}
 use Rattle.task_machine.specs.State.{standing_in}
 use Rattle.task_machine.proofs.Combinators.{both_true}

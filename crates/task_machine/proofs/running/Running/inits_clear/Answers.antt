@@ -1,4 +1,4 @@
-use Rattle.std.proofs.Common.{◌≡◌, ◌<◌, ◌≤◌, length, sym, ◌∙◌, refl, add-one, suc}
+use Rattle.std.proofs.Common.{◌≡◌, ◌<◌, ◌≤◌, length, sym, ◌∙◌, add-one, suc}
 use Rattle.task_machine.proofs.Stands.{clear_from, clear_skips, clear_goes_on, clear_ends, clear_after}
 use Rattle.task_machine.proofs.running.Running.inits_clear.Goals as goal
 use Rattle.task_machine.proofs.running.Running.inits_clear.Goals.{else-is_init-via-then-is_init+else-not-is_clear, else-is_init-via-else-is_init}

@@ -1,4 +1,4 @@
-use Rattle.std.proofs.Common.{◌≡◌, ap, sym, ◌∙◌, refl}
+use Rattle.std.proofs.Common.{refl}
 use Rattle.tower_syntax.specs.View.{events_of}
 use Rattle.task_machine.proofs.Starting.{kept_start, waiting_start, lost_start}
 use Rattle.task_machine.proofs.running.Running.new.Goals as goal

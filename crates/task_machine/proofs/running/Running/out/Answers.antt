@@ -1,10 +1,6 @@
-use Rattle.std.proofs.Common.{◌≡◌, ap, sym, ◌∙◌, refl, arith, subst, slice_get, slice_set, length, ◌<◌, ◌≤◌, ◌+◌, Some, None, List, ℤ, ℕ, Option}
-use Rattle.std.specs.Option.{option_map}
-use Rattle.std.proofs.Math.ListN.{length-set}
-use Rattle.task_code.specs.Own.{held_monitor}
+use Rattle.std.proofs.Common.{◌≡◌, refl, slice_get, length, ◌<◌, Some}
 use Rattle.task_code.specs.Does.{on}
-use Rattle.task_machine.specs.Action.{changed, with_lock_of, without_held, with_message}
-use Rattle.task_machine.proofs.Kept.{kept_own, kept_held, kept_take, length_changed, held_changed, length_laid, read_is, get_read, get_set_same}
+use Rattle.task_machine.proofs.Kept.{kept_own, read_is, get_read, get_set_same}
 use Rattle.task_machine.proofs.running.Running.out.Goals as goal
 
 pub invariant_of-self : goal.invariant_of-self

@@ -1,9 +1,9 @@
-use Rattle.std.proofs.Common.{◌≡◌, ℕ, ◌+◌, ◌<◌, ◌^◌, ◌∷◌, ap, sym, ◌∙◌, refl, slice_get, Some, arith, length, drop, List, ℤ, suc, subst}
-use Rattle.tower_types.specs.Value.{Value, flat}
+use Rattle.std.proofs.Common.{◌≡◌, ◌+◌, ◌<◌, ◌^◌, ◌∷◌, ap, sym, ◌∙◌, refl, slice_get, Some, arith, length, drop, suc}
+use Rattle.tower_types.specs.Value.{flat}
 use Rattle.tower_syntax.specs.Arch.{signal}
 use Rattle.tower_syntax.specs.View.{events_of}
 use Rattle.task_machine.specs.Kept.{signals}
-use Rattle.task_machine.proofs.Arriving.{is_signal, next_messages, signal_source, signal_room, kept_signal, received_signal}
+use Rattle.task_machine.proofs.Arriving.{is_signal, next_messages, signal_room, kept_signal, received_signal}
 use Rattle.task_machine.proofs.running.Running.signal.Goals as goal
 
 pub bring-requires-clause-room : goal.bring-requires-clause-room

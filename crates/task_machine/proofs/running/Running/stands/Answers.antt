@@ -1,4 +1,4 @@
-use Rattle.std.proofs.Common.{◌≡◌, ℕ, ap, sym, ◌∙◌, refl}
+use Rattle.std.proofs.Common.{ℕ, ap, sym, ◌∙◌}
 use Rattle.tower_syntax.specs.View.{events_of}
 use Rattle.task_code.specs.Does.{Does}
 use Rattle.task_code.specs.Standing.{Standing, standing_of}

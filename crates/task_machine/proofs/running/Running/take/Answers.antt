@@ -1,13 +1,7 @@
-use Rattle.std.proofs.Common.{◌≡◌, ap, sym, ◌∙◌, refl, arith, subst, slice_get, slice_set, length, ◌<◌, ◌≤◌, ◌+◌, Some, None, List, ℤ, ℕ, Option}
-use Rattle.std.specs.Option.{option_map}
-use Rattle.std.specs.Prelude.{IsSomeAnd}
-use Rattle.std.proofs.Math.ListN.{length-set}
-use Rattle.task_code.specs.Own.{held_monitor, Held}
-use Rattle.task_code.specs.Does.{on}
-use Rattle.task_machine.specs.Queue.{waiting}
+use Rattle.std.proofs.Common.{◌≡◌, refl, slice_get, length, ◌<◌, ◌≤◌, ◌+◌, Some}
 use Rattle.task_machine.proofs.Stands.{get_exists}
-use Rattle.task_machine.specs.Action.{changed, with_lock_of, without_held, with_message}
-use Rattle.task_machine.proofs.Kept.{kept_own, kept_held, kept_take, length_changed, held_changed, length_laid, read_is, get_read, words_free, ready_within, held_is, none_held, message_fits, oldest_is, waiting_taken, lost_taken}
+use Rattle.task_machine.specs.Action.{with_message}
+use Rattle.task_machine.proofs.Kept.{kept_take, length_laid, read_is, get_read, message_fits, oldest_is, waiting_taken, lost_taken}
 use Rattle.task_machine.proofs.running.Running.take.Goals as goal
 
 pub invariant_of-self : goal.invariant_of-self

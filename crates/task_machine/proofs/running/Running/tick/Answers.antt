@@ -1,4 +1,4 @@
-use Rattle.std.proofs.Common.{◌≡◌, ℕ, ◌+◌, ◌<◌, ◌^◌, ap, sym, ◌∙◌, refl, slice_get, Some, arith}
+use Rattle.std.proofs.Common.{◌≡◌, ◌+◌, ◌<◌, ◌^◌, refl, slice_get, Some, arith}
 use Rattle.tower_syntax.specs.Arch.{tick}
 use Rattle.tower_syntax.specs.View.{events_of}
 use Rattle.task_machine.proofs.Arriving.{tick_room, kept_tick, received_tick, ticks_few}

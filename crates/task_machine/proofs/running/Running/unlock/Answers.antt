@@ -1,13 +1,11 @@
-use Rattle.std.proofs.Common.{◌≡◌, ap, sym, ◌∙◌, refl, arith, subst, slice_get, slice_set, length, ◌<◌, ◌≤◌, ◌+◌, Some, None, List, ℤ, ℕ, Option}
+use Rattle.std.proofs.Common.{◌≡◌, refl, arith, subst, slice_get, length, ◌<◌, Some, None, Option}
 use Rattle.std.specs.Option.{option_map}
 use Rattle.std.specs.Prelude.{IsSomeAnd}
 use Rattle.std.proofs.Math.ListN.{length-set}
-use Rattle.task_code.specs.Own.{held_monitor, Held}
-use Rattle.task_code.specs.Does.{on}
-use Rattle.task_machine.specs.Queue.{waiting}
+use Rattle.task_code.specs.Own.{Held}
 use Rattle.task_machine.specs.Kept.{HoldsWords}
-use Rattle.task_machine.specs.Action.{changed, with_lock_of, without_held, with_message}
-use Rattle.task_machine.proofs.Kept.{kept_own, kept_held, kept_take, length_changed, held_changed, length_laid, read_is, get_read, words_free, ready_within, held_is, none_held, have_words, oldest_is, waiting_taken, lost_taken}
+use Rattle.task_machine.specs.Action.{without_held}
+use Rattle.task_machine.proofs.Kept.{kept_held, read_is, get_read, held_is, none_held, have_words}
 use Rattle.task_machine.proofs.running.Running.unlock.Goals as goal
 
 pub index_mut-requires-in-Some : goal.index_mut-requires-in-Some
