@@ -1,4 +1,5 @@
 pub mod Ended
+pub mod Few
 pub mod InputFacts
 pub mod Quiet
 pub mod RunFacts

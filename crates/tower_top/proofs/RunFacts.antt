@@ -86,7 +86,7 @@ module _ (p : Program) (events : Events) (limit : ℕ) where
   pub begins : Goes p events limit (record { run = first_run p events; steps = []; left = limit; stopped = false })
   begins = record { leads = refl; ends = refl; going = refl; counts = omega arith }
 
-  steps_push : (o : Option Run) (ss : List Planned) (t : Planned) (r : Run) → steps_from p events o (map step_of ss) ≡ Some r → steps_from p events o (map step_of (ss ++ t ∷ [])) ≡ step p events r (step_of t)
+  pub steps_push : (o : Option Run) (ss : List Planned) (t : Planned) (r : Run) → steps_from p events o (map step_of ss) ≡ Some r → steps_from p events o (map step_of (ss ++ t ∷ [])) ≡ step p events r (step_of t)
   steps_push None [] t r e = cc
   steps_push (Some q) [] t r e = ap (λ x. step p events x (step_of t)) (some_is q r e)
   steps_push None (s ∷ ss) t r e = cc

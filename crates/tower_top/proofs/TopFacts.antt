@@ -1,5 +1,6 @@
 -- How a call ends after each of its parts.
-use Rattle.std.proofs.Common.{◌≡◌, ◌≤◌, ℕ, List, [], ◌⊎◌, inl, inr, Option, Bool, true, false, refl, sym, ap, subst, arith}
+use Rattle.std.proofs.Common.{◌≡◌, ◌≤◌, ℕ, List, [], ◌⊎◌, inl, inr, Option, Bool, true, false, refl, sym, ap, ◌∙◌, subst, arith}
+use Rattle.std.proofs.lemmas.Bool.{false≢true}
 use Rattle.tower_io.specs.declared.answers.Put.{Put}
 use Rattle.tower_io.specs.declared.answers.Put.TheVariants as put
 use Rattle.tower_io.specs.Faults.{Rose}
@@ -10,7 +11,7 @@ use Rattle.tower_top.specs.declared.status.Status.{Status}
 use Rattle.tower_top.specs.declared.status.Status.TheVariants.{Done, Refused, Usage, ReadFault, WriteFault, NoMemory, BadInput, Stopped}
 use Rattle.tower_top.specs.declared.run.Ran.{Ran}
 use Rattle.tower_top.specs.declared.run.Ran.TheVariants as ran
-use Rattle.tower_top.specs.Answers.{Held, Taken, Count, Gets, GetsPrefix, HasRisen, IsDue, IsUnread, IsToWrite, due, unread, unread_line, Answers, FailsToRead, FailsToWrite, Ends, RunEnds, status_after, status_of_run, status_of_ran}
+use Rattle.tower_top.specs.Answers.{Held, Taken, Count, Gets, GetsPrefix, HasRisen, IsDue, IsUnread, IsToWrite, due, unread, unread_line, Answers, FailsToRead, FailsToWrite, Ends, RunEnds, status_after, status_of_ran}
 
 none_is_prefix : (t : Taken) → Gets t [] → GetsPrefix t []
 none_is_prefix t g = record { part = []; rest = []; whole = refl; adds = g }
@@ -21,29 +22,27 @@ module _ (held : Held) (words : List (List ℕ)) (blamed : List ℕ) (faults out
 
   -- a line on `err`, with nothing on `out`
   pub line_ends : (s : Status) → (Answers held words s out err → ends s) → (r : Put) (text : Bytes) → IsDue held words s [] text
-      → OnDone r (Gets err text) → OnPutFailed r (GetsPrefix err text) → OnPutFailed r (HasRisen err_faults) → Gets out [] → ends (status_after r s)
-  line_ends s answered put.Done text is done part rose none =
+      → OnDone r (Gets err text) → OnPutFailed r (GetsPrefix err text) → OnPutFailed r (HasRisen err_faults) → Gets out [] → faults.after ≡ faults.before → ends (status_after r s)
+  line_ends s answered put.Done text is done part rose none calm =
       answered (record { out_text = []; err_text = text; due = is; out_gets = none; err_gets = done })
-  line_ends s answered put.Failed text is done part rose none =
-      record { rose = inr rose; out_text = []; err_text = text; due = due s [] text is; out_gets = none_is_prefix out none; err_gets = part }
+  line_ends s answered put.Failed text is done part rose none calm =
+      record { rose = inr rose; out_text = []; err_text = text; due = due s [] text is calm; out_gets = none_is_prefix out none; err_gets = part }
 
   -- the line that an input could not be read
   pub unread_ends : (r : Put) → IsUnread held words blamed → HasRisen faults
       → OnDone r (Gets err (unread_line blamed)) → OnPutFailed r (GetsPrefix err (unread_line blamed)) → OnPutFailed r (HasRisen err_faults) → Gets out [] → ends (status_after r ReadFault)
   unread_ends put.Done is grew done part rose none = record { unread = is; rose = grew; out_gets = none; err_gets = done }
   unread_ends put.Failed is grew done part rose none =
-      record { rose = inr rose; out_text = []; err_text = unread_line blamed; due = unread blamed is; out_gets = none_is_prefix out none; err_gets = part }
+      record { rose = inr rose; out_text = []; err_text = unread_line blamed; due = unread is grew; out_gets = none_is_prefix out none; err_gets = part }
 
   -- a run, with nothing on `err`
-  pub run_ends : (r : Ran) (text : Bytes) (stops : Bool) → IsDue held words (status_of_run stops) text [] → RunEnds text stops out_faults out r
+  pub run_ends : (r : Ran) (text : Bytes) (stops : Bool) → stops ≡ false → IsDue held words Done text [] → RunEnds text stops out_faults out r
       → faults.after ≡ faults.before → Gets err [] → ends (status_of_ran r)
-  run_ends ran.Done text stops is e calm none =
-      record { out_text = text; err_text = []; due = subst (λ b. IsDue held words (status_of_run b) text []) e.0 is; out_gets = e.1; err_gets = none }
-  run_ends ran.Stopped text stops is e calm none =
-      record { out_text = text; err_text = []; due = subst (λ b. IsDue held words (status_of_run b) text []) e.0 is; out_gets = e.1; err_gets = none }
-  run_ends ran.WriteFault text stops is e calm none =
-      record { rose = inl e.1; out_text = text; err_text = []; due = due (status_of_run stops) text [] is; out_gets = e.0; err_gets = none_is_prefix err none }
-  run_ends ran.NoMemory text stops is e calm none = record { calm = calm; out_gets = e.0; err_gets = none }
+  run_ends ran.Done text stops ends_whole is e calm none = record { out_text = text; err_text = []; due = is; out_gets = e.1; err_gets = none }
+  run_ends ran.Stopped text stops ends_whole is e calm none = absurd (false≢true (sym ends_whole ∙ e.0))
+  run_ends ran.WriteFault text stops ends_whole is e calm none =
+      record { rose = inl e.1; out_text = text; err_text = []; due = due Done text [] is calm; out_gets = e.0; err_gets = none_is_prefix err none }
+  run_ends ran.NoMemory text stops ends_whole is e calm none = record { calm = calm; out_gets = e.0; err_gets = none }
 
 -- three texts put one after another, as far as they are put
 module _ {S : Type 0} (w : S → Option (List ℕ)) (f : S → ℕ) where

@@ -51,10 +51,6 @@ small_run_text s n = run_text (arch_of s) (code_of (arch_of s)) (events_of s n) 
 unfoldable pub small_run_stops : Small → ℕ → Bool
 small_run_stops s n = (plan (fixed (code_of (arch_of s))) (code_of (arch_of s)) (events_of s n) [] step_limit).stopped
 
-abbrev pub status_of_run : Bool → Status
-status_of_run true = Stopped
-status_of_run false = Done
-
 -- ---- what is due
 
 -- what a shelf holds of each name, where it tells it
@@ -76,17 +72,12 @@ pub data IsDue (held : Held) (words : List (List ℕ)) : Status → Bytes → By
   bad_record : (file name text record_text : List ℕ) (s : Small) → AsksRun words file name → IsHeld held file text → Spells text s
       → IsHeld held name record_text → IsNoTicks record_text → IsDue held words BadInput [] bad_record_line
   runs : (file name text record_text : List ℕ) (s : Small) (n : ℕ) → AsksRun words file name → IsHeld held file text → Spells text s
-      → IsHeld held name record_text → IsTicks record_text n → IsDue held words (status_of_run (small_run_stops s n)) (small_run_text s n) []
+      → IsHeld held name record_text → IsTicks record_text n → IsDue held words Done (small_run_text s n) []
 
 -- an input could not be read: FILE, or the record where FILE has no fault
 pub data IsUnread (held : Held) (words : List (List ℕ)) : List ℕ → Type 0 where
   file_unread : (file name : List ℕ) → AsksRun words file name → IsUnread held words file
   record_unread : (file name text : List ℕ) (s : Small) → AsksRun words file name → IsHeld held file text → Spells text s → IsUnread held words name
-
--- what was to be written on `out` and on `err` when a put failed
-pub data IsToWrite (held : Held) (words : List (List ℕ)) : Bytes → Bytes → Type 0 where
-  due : (status : Status) (out err : Bytes) → IsDue held words status out err → IsToWrite held words out err
-  unread : (name : List ℕ) → IsUnread held words name → IsToWrite held words [] (unread_line name)
 
 -- ---- how a call ends
 
@@ -109,6 +100,12 @@ pub record Count : Type 0 where
 abbrev pub HasRisen : Count → Type 0
 HasRisen c = Rose c.before c.after
 
+-- What was to be written on `out` and on `err` when a put failed: what is due, where no input had failed to be read, or
+-- the line of the input that had.
+pub data IsToWrite (held : Held) (words : List (List ℕ)) (blamed : List ℕ) (faults : Count) : Bytes → Bytes → Type 0 where
+  due : (status : Status) (out err : Bytes) → IsDue held words status out err → faults.after ≡ faults.before → IsToWrite held words blamed faults out err
+  unread : IsUnread held words blamed → HasRisen faults → IsToWrite held words blamed faults [] (unread_line blamed)
+
 -- the status is due, and both texts were written whole
 pub record Answers (held : Held) (words : List (List ℕ)) (status : Status) (out err : Taken) : Type 0 where
   pub out_text : Bytes
@@ -125,11 +122,11 @@ pub record FailsToRead (held : Held) (words : List (List ℕ)) (blamed : List �
   pub err_gets : Gets err (unread_line blamed)
 
 -- a put failed, and a first part of what was to be written was written
-pub record FailsToWrite (held : Held) (words : List (List ℕ)) (out_faults err_faults : Count) (out err : Taken) : Type 0 where
+pub record FailsToWrite (held : Held) (words : List (List ℕ)) (blamed : List ℕ) (faults out_faults err_faults : Count) (out err : Taken) : Type 0 where
   pub rose : HasRisen out_faults ⊎ HasRisen err_faults
   pub out_text : Bytes
   pub err_text : Bytes
-  pub due : IsToWrite held words out_text err_text
+  pub due : IsToWrite held words blamed faults out_text err_text
   pub out_gets : GetsPrefix out out_text
   pub err_gets : GetsPrefix err err_text
 
@@ -139,17 +136,17 @@ pub record LacksMemory (faults : Count) (out err : Taken) : Type 0 where
   pub out_gets : Gets out []
   pub err_gets : Gets err []
 
--- of each status, what was written and why it came
+-- of each status, what was written and why it came; two of them never come so far
 abbrev pub Ends : Held → List (List ℕ) → List ℕ → Count → Count → Count → Taken → Taken → Status → Type 0
 Ends held words blamed faults out_faults err_faults out err ReadFault = FailsToRead held words blamed faults out err
-Ends held words blamed faults out_faults err_faults out err WriteFault = FailsToWrite held words out_faults err_faults out err
+Ends held words blamed faults out_faults err_faults out err WriteFault = FailsToWrite held words blamed faults out_faults err_faults out err
 Ends held words blamed faults out_faults err_faults out err NoMemory = LacksMemory faults out err
 Ends held words blamed faults out_faults err_faults out err Done = Answers held words Done out err
 Ends held words blamed faults out_faults err_faults out err Refused = Answers held words Refused out err
 Ends held words blamed faults out_faults err_faults out err Usage = Answers held words Usage out err
 Ends held words blamed faults out_faults err_faults out err BadInput = Answers held words BadInput out err
-Ends held words blamed faults out_faults err_faults out err Stopped = Answers held words Stopped out err
-Ends held words blamed faults out_faults err_faults out err No = Answers held words No out err
+Ends held words blamed faults out_faults err_faults out err Stopped = ⊥
+Ends held words blamed faults out_faults err_faults out err No = ⊥
 
 -- ---- a run by itself
 

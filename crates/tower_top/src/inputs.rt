@@ -34,6 +34,7 @@ pub fn read_small<F: Shelf>(alloc: Global, shelf: &mut F, name: &str) -> Input<S
     ensures rose { OnUnread result (Rose (F.faults shelf.old) (F.faults shelf.new)) }
     ensures blames { OnUnread result (F.blamed shelf.new ≡ name.now) }
     ensures calm { UnlessUnread result (F.faults shelf.new ≡ F.faults shelf.old) }
+    ensures blames_none { UnlessUnread result (F.blamed shelf.new ≡ F.blamed shelf.old) }
     ensures never_falls { F.faults shelf.old ≤ F.faults shelf.new }
     ensures holds { F.held shelf.new ≡ F.held shelf.old }
 {
@@ -58,6 +59,7 @@ pub fn read_ticks<F: Shelf>(alloc: Global, shelf: &mut F, name: &str) -> Input<u
     ensures rose { OnUnread result (Rose (F.faults shelf.old) (F.faults shelf.new)) }
     ensures blames { OnUnread result (F.blamed shelf.new ≡ name.now) }
     ensures calm { UnlessUnread result (F.faults shelf.new ≡ F.faults shelf.old) }
+    ensures blames_none { UnlessUnread result (F.blamed shelf.new ≡ F.blamed shelf.old) }
     ensures never_falls { F.faults shelf.old ≤ F.faults shelf.new }
     ensures holds { F.held shelf.new ≡ F.held shelf.old }
 {

@@ -206,6 +206,7 @@ pub fn put_run<O: Sink>(alloc: Global, small: &Small, ticks: u64, out: &mut O) -
     ensures ends { RunEnds (small_run_text (small_of small.now) ticks) (small_run_stops (small_of small.now) ticks)
         (record { before = O.faults out.old; after = O.faults out.new })
         (record { old = O.written out.old; new = O.written out.new }) result }
+    ensures never_falls { O.faults out.old ≤ O.faults out.new }
 {
     let Begun {
         arch,

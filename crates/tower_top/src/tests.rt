@@ -151,15 +151,17 @@ fn each_call_of_the_shelf_fails_in_turn(rt: HostRuntime) -> Result<(), Fail> {
     Ok(())
 }
 
-// Of the text of a run and of a line that tells a fault.
+// Of the text of a run, and of each line that tells a fault.
 #[test]
 fn each_put_fails_in_turn(rt: HostRuntime) -> Result<(), Fail> {
     let alloc = rt.alloc();
-    for (record, on_out, on_err, most) in [
-        ("ticks", TEXT, "", 400u64),
-        ("absent", "", "cannot read absent\n", 6),
+    for (file, record, on_out, on_err, most) in [
+        ("clock", "ticks", TEXT, "", 400u64),
+        ("clock", "absent", "", "cannot read absent\n", 6),
+        ("narrow", "ticks", "", "refused: notyet 0\n", 6),
+        ("clock", "none", "", "bad record 1 line\n", 6),
     ] {
-        let words = words(alloc, &["towerc", "run", "clock", "--record", record])?;
+        let words = words(alloc, &["towerc", "run", file, "--record", record])?;
         let mut failed = 0u64;
         for number in 0..most {
             let mut out = MemSink::new(alloc, 1000, Vec::from_slice(alloc, &[number])?)?;
@@ -173,16 +175,11 @@ fn each_put_fails_in_turn(rt: HostRuntime) -> Result<(), Fail> {
             );
             assert!(rt; on_out.as_bytes().starts_with(out.bytes()), "{number}");
             assert!(rt; on_err.as_bytes().starts_with(err.bytes()), "{number}");
-            if answer == Status::WriteFault {
+            let is_whole = out.bytes().len() == on_out.len() && err.bytes().len() == on_err.len();
+            assert_eq!(rt; is_whole, answer != Status::WriteFault, "{number}");
+            if !is_whole {
                 assert_eq!(rt; failed, number);
-                assert!(rt;
-                    out.bytes() != on_out.as_bytes() || err.bytes() != on_err.as_bytes(),
-                    "{number}"
-                );
                 failed += 1;
-            } else {
-                assert_eq!(rt; out.bytes(), on_out.as_bytes(), "{number}");
-                assert_eq!(rt; err.bytes(), on_err.as_bytes(), "{number}");
             }
         }
         assert!(rt; 0 < failed && failed < most, "{failed}");

@@ -1,5 +1,5 @@
 //! The top call: words and inputs to a text and a status.
-ghost use Rattle.std.specs.Prelude.{◌≡◌, ◌<◌, ◌≤◌, ◌⊎◌, List, ℕ, map, string_bytes};
+ghost use Rattle.std.specs.Prelude.{◌≡◌, ◌≢◌, ◌<◌, ◌≤◌, ◌⊎◌, List, ℕ, map, string_bytes};
 ghost use Rattle.tower_io.specs.Faults.{Rose};
 ghost use Rattle.tower_report.specs.Puts.{Puts};
 ghost use Rattle.tower_top.specs.Answers.{Ends, unread_line, status_after, status_of_ran};
@@ -61,6 +61,10 @@ fn run<F: Shelf, O: Sink, E: Sink>(
     ensures read_grew { F.faults shelf.old < F.faults shelf.new → (result ≡ Status.ReadFault) ⊎ (result ≡ Status.WriteFault) }
     ensures out_grew { O.faults out.old < O.faults out.new → result ≡ Status.WriteFault }
     ensures err_grew { E.faults err.old < E.faults err.new → result ≡ Status.WriteFault }
+    ensures blames_none { result ≢ Status.ReadFault → result ≢ Status.WriteFault → F.blamed shelf.new ≡ F.blamed shelf.old }
+    ensures read_never_falls { F.faults shelf.old ≤ F.faults shelf.new }
+    ensures out_never_falls { O.faults out.old ≤ O.faults out.new }
+    ensures err_never_falls { E.faults err.old ≤ E.faults err.new }
     ensures holds { F.held shelf.new ≡ F.held shelf.old }
 {
     let small = match read_small(alloc, shelf, file) {
@@ -94,8 +98,8 @@ fn status_of(ran: Ran) -> Status
 /// goes to `out`, and the one line that tells of a fault to `err`.
 ///
 /// `run FILE --record NAME` runs the program of a small file over a record of ticks, and writes the text of the run.
-/// After `WriteFault` a first part of what was due was written on each sink. After any other answer but `Done` and
-/// `Stopped` nothing was written on `out`, and after `NoMemory` nothing at all.
+/// After `WriteFault` a first part of what was due was written on each sink. After any other answer but `Done`
+/// nothing was written on `out`, and after `NoMemory` nothing at all. `Stopped` and `No` never come.
 pub fn tower<F: Shelf, O: Sink, E: Sink>(
     alloc: Global,
     words: &[String],
@@ -115,6 +119,10 @@ pub fn tower<F: Shelf, O: Sink, E: Sink>(
     ensures read_grew { F.faults shelf.old < F.faults shelf.new → (result ≡ Status.ReadFault) ⊎ (result ≡ Status.WriteFault) }
     ensures out_grew { O.faults out.old < O.faults out.new → result ≡ Status.WriteFault }
     ensures err_grew { E.faults err.old < E.faults err.new → result ≡ Status.WriteFault }
+    ensures blames_none { result ≢ Status.ReadFault → result ≢ Status.WriteFault → F.blamed shelf.new ≡ F.blamed shelf.old }
+    ensures read_never_falls { F.faults shelf.old ≤ F.faults shelf.new }
+    ensures out_never_falls { O.faults out.old ≤ O.faults out.new }
+    ensures err_never_falls { E.faults err.old ≤ E.faults err.new }
     ensures holds { F.held shelf.new ≡ F.held shelf.old }
 
     // The program of a small file, whose run is written, is sound: the headline.

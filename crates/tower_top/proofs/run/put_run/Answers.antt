@@ -1,4 +1,4 @@
-use Rattle.std.proofs.Common.{sym, subst}
+use Rattle.std.proofs.Common.{sym, subst, arith}
 use Rattle.tower_syntax.specs.View.{events_of as events_in}
 use Rattle.tower_top.specs.Quiet.{IsQuiet}
 use Rattle.tower_top.specs.SmallView.{small_of}
@@ -20,6 +20,7 @@ returns-in-Some g c =
       ends = subst T (sym c.ended.ensures)
           (small_ended s c.args.ticks g.O.Sink.written g.O.Sink.faults c.args.out.now begun.arch begun.machine.program (events_in begun.machine.events) c.put_turns.new.out c.put_ending.new.out
           c.put_turns.new.machine.machine c.in-Some.rest.count c.in-Some.rest.stopped c.put_ending.result is.arch is.program is.events c.in-Some.ensures.halts c.put_ending.ensures);
+      never_falls = omega (arith, c.in-Some.ensures.halts.puts.never_falls, c.put_ending.ensures.never_falls);
     }
 
 pub returns : goal.returns
@@ -30,4 +31,5 @@ returns g c =
       ends =
           small_failed (small_of c.args.small.now) c.args.ticks g.O.Sink.written g.O.Sink.faults c.args.out.now begun.arch begun.machine.program (events_in begun.machine.events) c.put_turns.new.out
           is.arch is.program is.events c.in-None.ensures.halts;
+      never_falls = c.in-None.ensures.halts.never_falls;
     }

@@ -6,6 +6,7 @@ use Rattle.tower_top.specs.declared.status.Status.TheVariants as status
 use Rattle.tower_top.specs.SmallView.{small_of}
 use Rattle.tower_top.specs.Answers.{IsHeld, IsUnread, Count, Taken, not_small, bad_record, runs, file_unread, record_unread, unread_line, not_yet_line, bad_record_line, small_run_text, small_run_stops}
 use Rattle.tower_top.proofs.TopFacts.{line_ends, unread_ends, run_ends}
+use Rattle.tower_top.proofs.Few.{never_stops}
 use Rattle.tower_top.proofs.top.run.Goals as goal
 
 pub returns-in-Wrong-clause-ends : goal.returns-in-Wrong-clause-ends
@@ -20,7 +21,7 @@ returns-in-Wrong-clause-ends g c = λ words asks.
     (record { old = g.O.Sink.written c.args.out.now; new = g.O.Sink.written c.args.out.now })
     (record { old = g.E.Sink.written c.args.err.now; new = g.E.Sink.written c.put.new.self })
     status.Refused (λ a. a) c.put.result not_yet_line (not_small c.args.file.now c.args.record_name.now w.0 asks w.1 w.2)
-    e.all e.part e.rose (Adds_none (g.O.Sink.written c.args.out.now)))
+    e.all e.part e.rose (Adds_none (g.O.Sink.written c.args.out.now)) c.in-Wrong.ensures.calm)
 
 pub returns-in-Unread-clause-ends : goal.returns-in-Unread-clause-ends
 returns-in-Unread-clause-ends g c = λ words asks.
@@ -51,7 +52,7 @@ returns-in-Wrong-read_ticks-clause-ends g c = λ words asks.
     (record { old = g.E.Sink.written c.args.err.now; new = g.E.Sink.written c.put-in-Wrong-read_ticks.new.self })
     status.BadInput (λ a. a) c.put-in-Wrong-read_ticks.result bad_record_line
     (bad_record c.args.file.now c.args.record_name.now v.0 w.0 (small_of c.in-Valid.small) asks v.1 v.2 held w.2)
-    e.all e.part e.rose (Adds_none (g.O.Sink.written c.args.out.now)))
+    e.all e.part e.rose (Adds_none (g.O.Sink.written c.args.out.now)) (c.in-Wrong-read_ticks.ensures.calm ∙ c.in-Valid.ensures.calm))
 
 pub returns-in-Unread-read_ticks-clause-ends : goal.returns-in-Unread-read_ticks-clause-ends
 returns-in-Unread-read_ticks-clause-ends g c = λ words asks.
@@ -83,5 +84,6 @@ returns-clause-ends g c = λ words asks.
     (record { old = g.O.Sink.written c.args.out.now; new = g.O.Sink.written c.put_run.new.out })
     (record { old = g.E.Sink.written c.args.err.now; new = g.E.Sink.written c.args.err.now })
     c.put_run.result (small_run_text (small_of c.in-Valid.small) c.in-Valid-read_ticks.ticks) (small_run_stops (small_of c.in-Valid.small) c.in-Valid-read_ticks.ticks)
+    (never_stops (small_of c.in-Valid.small) v.2.valid c.in-Valid-read_ticks.ticks t.2.few)
     (runs c.args.file.now c.args.record_name.now v.0 t.0 (small_of c.in-Valid.small) c.in-Valid-read_ticks.ticks asks v.1 v.2 held t.2)
     c.put_run.ensures.ends (c.in-Valid-read_ticks.ensures.calm ∙ c.in-Valid.ensures.calm) (Adds_none (g.E.Sink.written c.args.err.now)))

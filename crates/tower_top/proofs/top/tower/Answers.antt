@@ -1,4 +1,4 @@
-use Rattle.std.proofs.Common.{[], map, string_bytes}
+use Rattle.std.proofs.Common.{[], map, string_bytes, refl}
 use Rattle.tower_io.proofs.Adding.{Adds_none}
 use Rattle.tower_top.specs.declared.status.Status.TheVariants as status
 use Rattle.tower_top.specs.Answers.{no_command, usage_line}
@@ -23,4 +23,4 @@ returns-in-None-clause-ends g c =
     (record { old = g.O.Sink.written c.args.out.now; new = g.O.Sink.written c.args.out.now })
     (record { old = g.E.Sink.written c.args.err.now; new = g.E.Sink.written c.put.new.self })
     status.Usage (λ a. a) c.put.result usage_line (no_command c.in-None.ensures)
-    e.all e.part e.rose (Adds_none (g.O.Sink.written c.args.out.now)))
+    e.all e.part e.rose (Adds_none (g.O.Sink.written c.args.out.now)) refl)
