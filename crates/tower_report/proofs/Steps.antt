@@ -3,8 +3,8 @@ use Rattle.std.proofs.Common.{◌≡◌, ℕ, ◌+◌, List, [], ◌∷◌, ◌+
 use Rattle.tower_syntax.specs.Arch.{Arch, Events}
 use Rattle.task_code.specs.Program.{Program}
 use Rattle.task_code.specs.Run.{Run, step, steps_from}
-use Rattle.task_code.specs.Plan.{Planned, goes, comes, step_of}
-use Rattle.tower_report.specs.RunText.{instructions, step_text, steps_text}
+use Rattle.task_code.specs.Plan.{Planned, goes, comes, step_of, instructions}
+use Rattle.tower_report.specs.RunText.{step_text, steps_text}
 
 -- the number of instructions adds up
 pub instructions_append : (ss ts : List Planned) → instructions (ss ++ ts) ≡ instructions ss + instructions ts

@@ -6,3 +6,4 @@ pub mod RunText
 pub mod ReplayText
 pub mod Puts
 pub mod Worked
+pub mod RefusalText

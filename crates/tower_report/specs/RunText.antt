@@ -10,7 +10,7 @@ use Rattle.task_code.specs.Machine.{Machine, next_does}
 use Rattle.task_code.specs.Standing.{Standing, IsWaiting, standing, standings, is_idle}
 use Rattle.task_code.specs.Run.{Run, step, first_run, mark_of, written_by}
 use Rattle.task_code.specs.Policy.{Policy, fixed}
-use Rattle.task_code.specs.Plan.{Planned, goes, comes, step_of, plan}
+use Rattle.task_code.specs.Plan.{Planned, goes, comes, step_of, instructions, plan}
 use Rattle.tower_report.specs.declared.rule.Rule.{Rule}
 use Rattle.tower_report.specs.declared.rule.Rule.TheVariants as rule
 use Rattle.tower_report.specs.Bytes.{Bytes}
@@ -26,12 +26,6 @@ policy_of None p = fixed p
 policy_of (Some r) p = rule_policy r p
 
 -- ---- the steps
-
--- an entry of the record is no instruction
-abbrev pub instructions : List Planned → ℕ
-instructions [] = 0
-instructions (goes k x ∷ ss) = 1 + instructions ss
-instructions (comes ∷ ss) = instructions ss
 
 -- task x did this, as instruction number n
 abbrev pub does_text : Arch → ℕ → ℕ → Does → Bytes

@@ -4,6 +4,7 @@
 pub mod ends;
 pub mod marks;
 mod pieces;
+pub mod refusals;
 pub mod replays;
 pub mod rule;
 pub mod values;
@@ -11,6 +12,7 @@ pub mod words;
 
 pub use ends::{put_count, put_end, put_held, put_lost, put_states, put_waits};
 pub use marks::{put_mark, put_out};
+pub use refusals::put_refusal;
 pub use replays::{put_message, put_misfit, put_pending, put_state_values, put_waiting};
 pub use rule::Rule;
 pub use values::put_value;

@@ -6,10 +6,10 @@ use Rattle.tower_syntax.specs.Arch.{Arch, Events}
 use Rattle.task_code.specs.Program.{Program}
 use Rattle.task_code.specs.Machine.{Machine}
 use Rattle.task_code.specs.Policy.{fixed}
-use Rattle.task_code.specs.Plan.{plan}
+use Rattle.task_code.specs.Plan.{plan, instructions}
 use Rattle.tower_report.specs.Puts.{Puts}
 use Rattle.tower_report.specs.EndText.{end_text}
-use Rattle.tower_report.specs.RunText.{instructions, run_text}
+use Rattle.tower_report.specs.RunText.{run_text}
 use Rattle.tower_report.proofs.Puts.{Puts-then, Puts-fail, Puts-stop, Puts-same}
 use Rattle.task_build.specs.CodeOf.{code_of}
 use Rattle.tower_top.specs.Small.{Small, arch_of}

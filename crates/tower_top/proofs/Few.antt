@@ -15,9 +15,8 @@ use Rattle.task_code.specs.Machine.{Machine, next_does, queue, bring, received, 
 use Rattle.task_code.specs.Standing.{Standing, IsStuck, IsIdle, IsWaiting, IsReady, standing, standing_of, at_queue, held_back}
 use Rattle.task_code.specs.Run.{Run, Step, Turn, Event, step, steps_from, first_run, reached, if_ready, turned, came}
 use Rattle.task_code.specs.Policy.{fixed}
-use Rattle.task_code.specs.Plan.{Planned, goes, comes, step_of, Planning, plan, to_end, unchosen, any_ready, picked, has_ended, go_with, instruct, stepped, enter, entered}
+use Rattle.task_code.specs.Plan.{Planned, goes, comes, step_of, Planning, plan, to_end, unchosen, any_ready, picked, has_ended, go_with, instruct, stepped, enter, entered, instructions}
 use Rattle.task_build.specs.CodeOf.{code_of}
-use Rattle.tower_report.specs.RunText.{instructions}
 use Rattle.tower_report.proofs.Steps.{instructions_append}
 use Rattle.tower_top.specs.Small.{Small, IsValid, arch_of}
 use Rattle.tower_top.specs.Ticks.{tick_entries}

@@ -1,8 +1,12 @@
 -- The text that a shelf holds, after a fetch.
-use Rattle.std.proofs.Common.{◌≡◌, ◌<◌, ◌≤◌, ◌+◌, ◌^◌, ℕ, List, [], ◌∷◌, ◌++◌, ◌⊎◌, ⊎_elim, length, take, Option, Some, None, refl, sym, ap, arith, length-take, length-append, codes, decimal}
+use Rattle.std.proofs.Common.{◌≡◌, ◌<◌, ◌≤◌, ◌+◌, ◌^◌, ℕ, List, [], ◌∷◌, ◌++◌, ◌⊎◌, inl, inr, ⊎_elim, length, take, Option, Some, None, refl, sym, ap, arith, length-take, length-append, codes, decimal}
 use Rattle.std.specs.Prelude.{IfSome}
 use Rattle.std.proofs.lemmas.Fmt.{length-decimal-le}
-use Rattle.tower_top.specs.Answers.{IsNoTicks}
+use Rattle.tower_reader.specs.declared.fault.ReadFault.{ReadFault}
+use Rattle.tower_reader.specs.declared.fault.ReadFault.TheVariants as fault
+use Rattle.tower_reader.specs.Faults.{TextOffends, Precedes}
+use Rattle.tower_top.specs.declared.inputs.Refusal.TheVariants as refusal
+use Rattle.tower_top.specs.Answers.{IsNoTicks, IsRefused}
 use Rattle.tower_top.specs.Small.{IsNotSmall}
 use Rattle.tower_top.specs.Ticks.{IsTicks}
 
@@ -27,3 +31,19 @@ no_ticks text h n is =
 
 pub not_small : (text : List ℕ) → 16384 < length text → IsNotSmall text
 not_small text h s spells = let k = spells.short in absurd (omega arith)
+
+-- before all else that may be wrong
+long_first : (text : List ℕ) (g : ReadFault) → TextOffends text g → (g ≡ fault.Long 1048576) ⊎ Precedes (fault.Long 1048576) g
+long_first text (fault.Long limit) o = inl (ap fault.Long o.0)
+long_first text (fault.Byte at) o = inr (inl (omega arith))
+long_first text (fault.Unopened at) o = inr (inl (omega arith))
+long_first text (fault.Nest at) o = inr (inl (omega arith))
+long_first text (fault.Unclosed at) o = inr (inl (omega arith))
+long_first text fault.Empty o = inr (inl (omega arith))
+long_first text (fault.Form at) o = inr (inl (omega arith))
+long_first text (fault.Number at) o = inr (inl (omega arith))
+long_first text (fault.Length at) o = inr (inl (omega arith))
+long_first text fault.NoMemory o = absurd o
+
+pub long_refused : (text : List ℕ) → 1048576 < length text → IsRefused text (refusal.Fault (fault.Long 1048576))
+long_refused text h = (not_small text (omega (arith, h)), record { offends = (refl, h); precedes = long_first text })

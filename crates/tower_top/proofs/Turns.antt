@@ -12,11 +12,11 @@ use Rattle.task_code.specs.Machine.{Machine, first_machine, next_does, after, re
 use Rattle.task_code.specs.Standing.{Standing, IsReady, standing, is_finished}
 use Rattle.task_code.specs.Run.{Run, Turn, Event, step, steps_from, first_run, if_ready, turned, came}
 use Rattle.task_code.specs.Policy.{fixed}
-use Rattle.task_code.specs.Plan.{Planned, goes, comes, step_of, Planning, any_ready, picked}
+use Rattle.task_code.specs.Plan.{Planned, goes, comes, step_of, Planning, any_ready, picked, instructions}
 use Rattle.tower_report.specs.Bytes.{Bytes}
 use Rattle.tower_report.specs.MarkText.{mark_line}
 use Rattle.tower_report.specs.Puts.{Puts}
-use Rattle.tower_report.specs.RunText.{instructions, steps_text, does_text}
+use Rattle.tower_report.specs.RunText.{steps_text, does_text}
 use Rattle.tower_report.proofs.Puts.{Puts-none, Puts-then, Puts-fail, Puts-stop, Puts-same}
 use Rattle.tower_report.proofs.Steps.{instructions_append, steps_text_append, steps_text_push}
 use Rattle.tower_top.specs.declared.run.Turn.{Turn as TurnMade}

@@ -11,6 +11,12 @@ use Rattle.task_code.specs.Plan.{plan}
 use Rattle.task_build.specs.CodeOf.{code_of}
 use Rattle.tower_report.specs.Bytes.{Bytes, line}
 use Rattle.tower_report.specs.RunText.{run_text}
+use Rattle.tower_report.specs.RefusalText.{refusal_line}
+use Rattle.tower_syntax.specs.RawTree.{Id, Raw}
+use Rattle.tower_reader.specs.Spelled.{Spells as SpellsRaw}
+use Rattle.tower_reader.specs.Faults.{IsFault}
+use Rattle.tower_top.specs.declared.inputs.Refusal.{Refusal}
+use Rattle.tower_top.specs.declared.inputs.Refusal.TheVariants as refusal
 use Rattle.tower_top.specs.declared.status.Status.{Status}
 use Rattle.tower_top.specs.declared.status.Status.TheVariants.{Done, Refused, Usage, ReadFault, WriteFault, NoMemory, BadInput, Stopped, No}
 use Rattle.tower_top.specs.declared.run.Ran.{Ran}
@@ -61,6 +67,15 @@ Held = List ℕ → Option (List ℕ)
 abbrev pub IsHeld : Held → List ℕ → List ℕ → Type 0
 IsHeld held name text = IfSome (held name) (λ told. told ≡ text)
 
+-- why a text is refused: for its fault, or since it has none and is no small file
+abbrev pub IsRefused : List ℕ → Refusal → Type 0
+IsRefused text (refusal.Fault f) = IsNotSmall text × IsFault text f
+IsRefused text refusal.NotYet = IsNotSmall text × ((raw : Raw Id) × SpellsRaw text raw)
+
+abbrev pub refused_line : Refusal → Bytes
+refused_line (refusal.Fault f) = refusal_line f
+refused_line refusal.NotYet = not_yet_line
+
 -- the record is no line of ticks
 abbrev pub IsNoTicks : List ℕ → Type 0
 IsNoTicks text = (n : ℕ) → IsTicks text n → ⊥
@@ -68,7 +83,7 @@ IsNoTicks text = (n : ℕ) → IsTicks text n → ⊥
 -- the status that is due, with the texts that are due on `out` and on `err`
 pub data IsDue (held : Held) (words : List (List ℕ)) : Status → Bytes → Bytes → Type 0 where
   no_command : AsksNothing words → IsDue held words Usage [] usage_line
-  not_small : (file name text : List ℕ) → AsksRun words file name → IsHeld held file text → IsNotSmall text → IsDue held words Refused [] not_yet_line
+  refused : (file name text : List ℕ) (why : Refusal) → AsksRun words file name → IsHeld held file text → IsRefused text why → IsDue held words Refused [] (refused_line why)
   bad_record : (file name text record_text : List ℕ) (s : Small) → AsksRun words file name → IsHeld held file text → Spells text s
       → IsHeld held name record_text → IsNoTicks record_text → IsDue held words BadInput [] bad_record_line
   runs : (file name text record_text : List ℕ) (s : Small) (n : ℕ) → AsksRun words file name → IsHeld held file text → Spells text s

@@ -8,11 +8,11 @@ use Rattle.task_code.specs.Program.{Program}
 use Rattle.task_code.specs.Machine.{Machine, first_machine}
 use Rattle.task_code.specs.Run.{Run, first_run, steps_from}
 use Rattle.task_code.specs.Policy.{fixed, priorities}
-use Rattle.task_code.specs.Plan.{Planned, step_of, Planning, plan, to_end, turns_left}
+use Rattle.task_code.specs.Plan.{Planned, step_of, Planning, plan, to_end, turns_left, instructions}
 use Rattle.tower_report.specs.Bytes.{Bytes}
 use Rattle.tower_report.specs.MarkText.{IsMarkOf}
 use Rattle.tower_report.specs.Puts.{Puts}
-use Rattle.tower_report.specs.RunText.{instructions, steps_text}
+use Rattle.tower_report.specs.RunText.{steps_text}
 use Rattle.tower_syntax.specs.View.{events_of as events_in}
 use Rattle.task_build.specs.CodeOf.{code_of}
 use Rattle.tower_top.specs.declared.run.Ran.{Ran}

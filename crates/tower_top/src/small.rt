@@ -13,7 +13,7 @@ use tower_syntax::spelling::{is_name, natural, natural_within};
 use tower_types::{Name, NoMemory};
 
 /// The greatest length of a small file in bytes.
-pub const FILE_LIMIT: usize = 16_384;
+const FILE_LIMIT: usize = 16_384;
 
 /// The greatest length of a name in bytes.
 const NAME_LIMIT: usize = 64;

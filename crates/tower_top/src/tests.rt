@@ -17,12 +17,13 @@ const TEXT: &str =
 
 const USAGE: &str = "usage: towerc COMMAND FILE [OPTIONS]\n";
 
-/// A shelf with both files, a record, and a text that is none.
+/// A shelf with these files and one that is not closed, a record, and a text that is none.
 fn shelf(alloc: Global, fails: &[u64]) -> Result<MemShelf, AllocError> {
     let mut files = Vec::new(alloc);
     for (name, text) in [
         ("clock", CLOCK),
         ("narrow", NARROW),
+        ("open", "(tower a"),
         ("ticks", "tick 25"),
         ("none", "tick 0"),
     ] {
@@ -34,10 +35,13 @@ fn shelf(alloc: Global, fails: &[u64]) -> Result<MemShelf, AllocError> {
     Ok(MemShelf::new(files, Vec::from_slice(alloc, fails)?))
 }
 
-fn words(alloc: Global, texts: &[&str]) -> Result<Vec<String>, AllocError> {
+/// The words of a line.
+fn words(alloc: Global, line: &str) -> Result<Vec<String>, AllocError> {
     let mut words = Vec::new(alloc);
-    for text in texts {
-        words.push(String::from_str(alloc, text)?)?;
+    for word in line.split(' ') {
+        if !word.is_empty() {
+            words.push(String::from_str(alloc, word)?)?;
+        }
     }
     Ok(words)
 }
@@ -45,81 +49,63 @@ fn words(alloc: Global, texts: &[&str]) -> Result<Vec<String>, AllocError> {
 #[test]
 fn answers_by_name(rt: HostRuntime) -> Result<(), Fail> {
     let alloc = rt.alloc();
-    let run = ["towerc", "run", "clock", "--record", "ticks"];
-    let cases: [(&[&str], Status, &str, &str); 13] = [
-        (&run, Status::Done, TEXT, ""),
+    for (line, status, on_out, on_err) in [
+        ("towerc run clock --record ticks", Status::Done, TEXT, ""),
         (
-            &["towerc", "run", "narrow", "--record", "ticks"],
+            "towerc run narrow --record ticks",
             Status::Refused,
             "",
             "refused: notyet 0\n",
         ),
         (
-            &["towerc", "run", "narrow", "--record", "absent"],
+            "towerc run open --record absent",
             Status::Refused,
             "",
-            "refused: notyet 0\n",
+            "refused: unclosed 0\n",
         ),
         (
-            &["towerc", "run", "clock", "--record", "none"],
+            "towerc run clock --record none",
             Status::BadInput,
             "",
             "bad record 1 line\n",
         ),
         (
-            &["towerc", "run", "absent", "--record", "ticks"],
+            "towerc run absent --record ticks",
             Status::ReadFault,
             "",
             "cannot read absent\n",
         ),
         (
-            &["towerc", "run", "clock", "--record", "absent"],
+            "towerc run clock --record absent",
             Status::ReadFault,
             "",
             "cannot read absent\n",
         ),
-        (&[], Status::Usage, "", USAGE),
-        (&["towerc"], Status::Usage, "", USAGE),
-        (&["towerc", "run", "clock"], Status::Usage, "", USAGE),
+        ("", Status::Usage, "", USAGE),
+        ("towerc", Status::Usage, "", USAGE),
+        ("towerc run clock", Status::Usage, "", USAGE),
+        ("towerc run clock --record", Status::Usage, "", USAGE),
+        ("towerc run clock --records ticks", Status::Usage, "", USAGE),
+        ("towerc walk clock --record ticks", Status::Usage, "", USAGE),
         (
-            &["towerc", "run", "clock", "--record"],
+            "towerc run clock --record ticks more",
             Status::Usage,
             "",
             USAGE,
         ),
-        (
-            &["towerc", "run", "clock", "--records", "ticks"],
-            Status::Usage,
-            "",
-            USAGE,
-        ),
-        (
-            &["towerc", "walk", "clock", "--record", "ticks"],
-            Status::Usage,
-            "",
-            USAGE,
-        ),
-        (
-            &["towerc", "run", "clock", "--record", "ticks", "more"],
-            Status::Usage,
-            "",
-            USAGE,
-        ),
-    ];
-    for (texts, status, on_out, on_err) in cases {
+    ] {
         let mut out = MemSink::new(alloc, 1000, Vec::new(alloc))?;
         let mut err = MemSink::new(alloc, 1000, Vec::new(alloc))?;
-        let words = words(alloc, texts)?;
         let answer = tower(
             alloc,
-            words.as_slice(),
+            words(alloc, line)?.as_slice(),
             &mut shelf(alloc, &[])?,
             &mut out,
             &mut err,
         );
-        assert_eq!(rt; answer, status, "{}", words.len());
-        assert_eq!(rt; out.bytes(), on_out.as_bytes());
-        assert_eq!(rt; err.bytes(), on_err.as_bytes());
+        assert_eq!(rt; answer, status, "{line}");
+        assert_eq!(rt; out.bytes(), on_out.as_bytes(), "{line}");
+        assert_eq!(rt; err.bytes(), on_err.as_bytes(), "{line}");
     }
     Ok(())
 }
@@ -128,7 +114,7 @@ fn answers_by_name(rt: HostRuntime) -> Result<(), Fail> {
 #[test]
 fn each_call_of_the_shelf_fails_in_turn(rt: HostRuntime) -> Result<(), Fail> {
     let alloc = rt.alloc();
-    let words = words(alloc, &["towerc", "run", "clock", "--record", "ticks"])?;
+    let words = words(alloc, "towerc run clock --record ticks")?;
     for number in 0..7u64 {
         let mut out = MemSink::new(alloc, 1000, Vec::new(alloc))?;
         let mut err = MemSink::new(alloc, 1000, Vec::new(alloc))?;
@@ -155,13 +141,35 @@ fn each_call_of_the_shelf_fails_in_turn(rt: HostRuntime) -> Result<(), Fail> {
 #[test]
 fn each_put_fails_in_turn(rt: HostRuntime) -> Result<(), Fail> {
     let alloc = rt.alloc();
-    for (file, record, on_out, on_err, most) in [
-        ("clock", "ticks", TEXT, "", 400u64),
-        ("clock", "absent", "", "cannot read absent\n", 6),
-        ("narrow", "ticks", "", "refused: notyet 0\n", 6),
-        ("clock", "none", "", "bad record 1 line\n", 6),
+    for (line, on_out, on_err, most) in [
+        ("towerc run clock --record ticks", TEXT, "", 400u64),
+        (
+            "towerc run clock --record absent",
+            "",
+            "cannot read absent\n",
+            6,
+        ),
+        (
+            "towerc run narrow --record ticks",
+            "",
+            "refused: notyet 0\n",
+            6,
+        ),
+        (
+            "towerc run open --record ticks",
+            "",
+            "refused: unclosed 0\n",
+            12,
+        ),
+        (
+            "towerc run clock --record none",
+            "",
+            "bad record 1 line\n",
+            6,
+        ),
+        ("towerc", "", USAGE, 6),
     ] {
-        let words = words(alloc, &["towerc", "run", file, "--record", record])?;
+        let words = words(alloc, line)?;
         let mut failed = 0u64;
         for number in 0..most {
             let mut out = MemSink::new(alloc, 1000, Vec::from_slice(alloc, &[number])?)?;
@@ -173,16 +181,22 @@ fn each_put_fails_in_turn(rt: HostRuntime) -> Result<(), Fail> {
                 &mut out,
                 &mut err,
             );
-            assert!(rt; on_out.as_bytes().starts_with(out.bytes()), "{number}");
-            assert!(rt; on_err.as_bytes().starts_with(err.bytes()), "{number}");
+            assert!(rt;
+                on_out.as_bytes().starts_with(out.bytes()),
+                "{line} {number}"
+            );
+            assert!(rt;
+                on_err.as_bytes().starts_with(err.bytes()),
+                "{line} {number}"
+            );
             let is_whole = out.bytes().len() == on_out.len() && err.bytes().len() == on_err.len();
-            assert_eq!(rt; is_whole, answer != Status::WriteFault, "{number}");
+            assert_eq!(rt; is_whole, answer != Status::WriteFault, "{line} {number}");
             if !is_whole {
-                assert_eq!(rt; failed, number);
+                assert_eq!(rt; failed, number, "{line}");
                 failed += 1;
             }
         }
-        assert!(rt; 0 < failed && failed < most, "{failed}");
+        assert!(rt; 0 < failed && failed < most, "{line} {failed}");
     }
     Ok(())
 }

@@ -2,18 +2,19 @@
 ghost use Rattle.std.specs.Prelude.{◌≡◌, ◌≢◌, ◌<◌, ◌≤◌, ◌⊎◌, List, ℕ, map, string_bytes};
 ghost use Rattle.tower_io.specs.Faults.{Rose};
 ghost use Rattle.tower_report.specs.Puts.{Puts};
-ghost use Rattle.tower_top.specs.Answers.{Ends, unread_line, status_after, status_of_ran};
+ghost use Rattle.tower_top.specs.Answers.{Ends, refused_line, unread_line, status_after, status_of_ran};
 ghost use Rattle.task_build.specs.CodeOf.{code_of};
 ghost use Rattle.lock_reduction.specs.Reduce.{Sound};
 ghost use Rattle.tower_top.specs.Small.{Small as SmallFile, Spells, arch_of};
 ghost use Rattle.tower_top.specs.Words.{AsksRun};
 
-use crate::inputs::{Input, read_small, read_ticks};
+use crate::inputs::{Input, Refusal, read_small, read_ticks};
 use crate::run::{Ran, put_run};
 use crate::status::Status;
 use crate::words::asked_run;
 use std::alloc::Global;
 use tower_io::{Put, Shelf, Sink};
+use tower_report::put_refusal;
 
 /// The status, or that of a put that failed.
 fn after(put: Put, status: Status) -> Status
@@ -22,6 +23,19 @@ fn after(put: Put, status: Status) -> Status
     match put {
         Put::Done => status,
         Put::Failed => Status::WriteFault,
+    }
+}
+
+/// Tells why FILE is refused.
+fn put_refused<E: Sink>(err: &mut E, why: Refusal) -> Put
+    ensures { Puts E.written E.faults err.old err.new (refused_line why) result }
+{
+    match why {
+        Refusal::Fault(fault) => put_refusal(err, fault),
+        Refusal::NotYet => match err.put(b"refused: notyet 0\n") {
+            Put::Done => Put::Done,
+            Put::Failed => Put::Failed,
+        },
     }
 }
 
@@ -69,13 +83,13 @@ fn run<F: Shelf, O: Sink, E: Sink>(
 {
     let small = match read_small(alloc, shelf, file) {
         Input::Valid(small) => small,
-        Input::Wrong => return after(err.put(b"refused: notyet 0\n"), Status::Refused),
+        Input::Wrong(why) => return after(put_refused(err, why), Status::Refused),
         Input::Unread => return after(put_unread(err, shelf.blamed()), Status::ReadFault),
         Input::NoMemory => return Status::NoMemory,
     };
     let ticks = match read_ticks(alloc, shelf, record_name) {
         Input::Valid(ticks) => ticks,
-        Input::Wrong => return after(err.put(b"bad record 1 line\n"), Status::BadInput),
+        Input::Wrong(()) => return after(err.put(b"bad record 1 line\n"), Status::BadInput),
         Input::Unread => return after(put_unread(err, shelf.blamed()), Status::ReadFault),
         Input::NoMemory => return Status::NoMemory,
     };

@@ -4,7 +4,7 @@ use Rattle.tower_io.specs.Faults.{Rose}
 use Rattle.tower_report.specs.Puts.{Puts}
 use Rattle.tower_top.specs.declared.status.Status.TheVariants as status
 use Rattle.tower_top.specs.SmallView.{small_of}
-use Rattle.tower_top.specs.Answers.{IsHeld, IsUnread, Count, Taken, not_small, bad_record, runs, file_unread, record_unread, unread_line, not_yet_line, bad_record_line, small_run_text, small_run_stops}
+use Rattle.tower_top.specs.Answers.{IsHeld, IsUnread, Count, Taken, refused, bad_record, runs, file_unread, record_unread, unread_line, refused_line, bad_record_line, small_run_text, small_run_stops}
 use Rattle.tower_top.proofs.TopFacts.{line_ends, unread_ends, run_ends}
 use Rattle.tower_top.proofs.Few.{never_stops}
 use Rattle.tower_top.proofs.top.run.Goals as goal
@@ -12,15 +12,15 @@ use Rattle.tower_top.proofs.top.run.Goals as goal
 pub returns-in-Wrong-clause-ends : goal.returns-in-Wrong-clause-ends
 returns-in-Wrong-clause-ends g c = λ words asks.
     let w = c.in-Wrong.ensures.wrong in
-    let e = c.put.ensures in
+    let e = c.put_refused.ensures in
     rw c.after.ensures
     (line_ends (g.F.Shelf.held c.args.shelf.now) words (g.F.Shelf.blamed c.read_small.new.shelf)
     (record { before = g.F.Shelf.faults c.args.shelf.now; after = g.F.Shelf.faults c.read_small.new.shelf })
     (record { before = g.O.Sink.faults c.args.out.now; after = g.O.Sink.faults c.args.out.now })
-    (record { before = g.E.Sink.faults c.args.err.now; after = g.E.Sink.faults c.put.new.self })
+    (record { before = g.E.Sink.faults c.args.err.now; after = g.E.Sink.faults c.put_refused.new.err })
     (record { old = g.O.Sink.written c.args.out.now; new = g.O.Sink.written c.args.out.now })
-    (record { old = g.E.Sink.written c.args.err.now; new = g.E.Sink.written c.put.new.self })
-    status.Refused (λ a. a) c.put.result not_yet_line (not_small c.args.file.now c.args.record_name.now w.0 asks w.1 w.2)
+    (record { old = g.E.Sink.written c.args.err.now; new = g.E.Sink.written c.put_refused.new.err })
+    status.Refused (λ a. a) c.put_refused.result (refused_line c.in-Wrong.why) (refused c.args.file.now c.args.record_name.now w.0 c.in-Wrong.why asks w.1 w.2)
     e.all e.part e.rose (Adds_none (g.O.Sink.written c.args.out.now)) c.in-Wrong.ensures.calm)
 
 pub returns-in-Unread-clause-ends : goal.returns-in-Unread-clause-ends
@@ -41,16 +41,16 @@ pub returns-in-Wrong-read_ticks-clause-ends : goal.returns-in-Wrong-read_ticks-c
 returns-in-Wrong-read_ticks-clause-ends g c = λ words asks.
     let v = c.in-Valid.ensures.valid in
     let w = c.in-Wrong-read_ticks.ensures.wrong in
-    let e = c.put-in-Wrong-read_ticks.ensures in
+    let e = c.put.ensures in
     let held = subst (λ h. IsHeld h c.args.record_name.now w.0) c.in-Valid.ensures.holds w.1 in
     rw c.after-in-Wrong-read_ticks.ensures
     (line_ends (g.F.Shelf.held c.args.shelf.now) words (g.F.Shelf.blamed c.read_ticks.new.shelf)
     (record { before = g.F.Shelf.faults c.args.shelf.now; after = g.F.Shelf.faults c.read_ticks.new.shelf })
     (record { before = g.O.Sink.faults c.args.out.now; after = g.O.Sink.faults c.args.out.now })
-    (record { before = g.E.Sink.faults c.args.err.now; after = g.E.Sink.faults c.put-in-Wrong-read_ticks.new.self })
+    (record { before = g.E.Sink.faults c.args.err.now; after = g.E.Sink.faults c.put.new.self })
     (record { old = g.O.Sink.written c.args.out.now; new = g.O.Sink.written c.args.out.now })
-    (record { old = g.E.Sink.written c.args.err.now; new = g.E.Sink.written c.put-in-Wrong-read_ticks.new.self })
-    status.BadInput (λ a. a) c.put-in-Wrong-read_ticks.result bad_record_line
+    (record { old = g.E.Sink.written c.args.err.now; new = g.E.Sink.written c.put.new.self })
+    status.BadInput (λ a. a) c.put.result bad_record_line
     (bad_record c.args.file.now c.args.record_name.now v.0 w.0 (small_of c.in-Valid.small) asks v.1 v.2 held w.2)
     e.all e.part e.rose (Adds_none (g.O.Sink.written c.args.out.now)) (c.in-Wrong-read_ticks.ensures.calm ∙ c.in-Valid.ensures.calm))
 

@@ -1,0 +1,13 @@
+pub mod ExprRows
+pub mod First
+pub mod Found
+pub mod Gathered
+pub mod Gone
+pub mod ItemRows
+pub mod Offending
+pub mod Once
+pub mod PartRows
+pub mod Whole
+pub mod Places
+pub mod StmtRows
+pub mod StmtWalk

@@ -1,0 +1,9 @@
+pub mod Names
+pub mod Sets
+pub mod Site
+pub mod Sites
+pub mod Linked
+pub mod Resolved
+pub mod Walk
+pub mod WorkedNames
+pub mod Written

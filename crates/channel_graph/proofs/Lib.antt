@@ -1,0 +1,14 @@
+pub mod Saturating
+pub mod Counted
+pub mod Listed
+pub mod Members
+pub mod Linked
+pub mod Closed
+pub mod Searched
+pub mod ReachedList
+pub mod Rows
+pub mod Shortest
+pub mod Led
+pub mod Rounds
+pub mod Sized
+pub mod Weighed

@@ -1,0 +1,6 @@
+use Rattle.std.proofs.Common.{◌≡◌, false, length}
+use Rattle.channel_graph.specs.Ranked.{Widens}
+use Rattle.channel_graph.proofs.circuit.widen.Given as goal
+
+abbrev pub invariant-loop-k : goal.invariant-loop-k
+invariant-loop-k l = Widens l.arch l.loud l.n l.k l.initial.ranks l.ranks × (l.grew ≡ false → l.ranks ≡ l.initial.ranks)

@@ -1,0 +1,6 @@
+pub mod Listening
+pub mod Reaching
+pub mod Circuit
+pub mod Worked
+pub mod Ranked
+pub mod Stepped

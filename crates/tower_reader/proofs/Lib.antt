@@ -1,0 +1,11 @@
+pub mod Parts
+pub mod Runs
+pub mod Words
+pub mod Numbers
+pub mod Literals
+pub mod Exact
+pub mod Offences
+pub mod Order
+pub mod Verdicts
+pub mod Standing
+pub mod Rows

@@ -1,0 +1,15 @@
+-- The laws of the definitions.
+use Rattle.std.specs.Prelude.{◌≡◌, ◌↔◌, ℕ, List, Ok, Err}
+use Rattle.tower_syntax.specs.RawTree.{Id, Raw}
+use Rattle.tower_reader.specs.declared.fault.ReadFault.{ReadFault}
+use Rattle.tower_reader.specs.Spelled.{Spells}
+use Rattle.tower_reader.specs.Faults.{IsFault}
+use Rattle.tower_reader.specs.Verdict.{verdict}
+
+-- a text spells a tree exactly where the verdict is this tree
+abbrev pub VerdictSpells : Type 0
+VerdictSpells = (bs : List ℕ) (r : Raw Id) → (verdict bs ≡ Ok r) ↔ Spells bs r
+
+-- and has a fault exactly where the verdict is this fault
+abbrev pub VerdictFault : Type 0
+VerdictFault = (bs : List ℕ) (f : ReadFault) → (verdict bs ≡ Err f) ↔ IsFault bs f

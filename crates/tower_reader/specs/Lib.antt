@@ -1,0 +1,12 @@
+pub mod Table
+pub mod Words
+pub mod Part
+pub mod Spelled
+pub mod Faults
+pub mod Reading
+pub mod Machine
+pub mod View
+pub mod Verdict
+pub mod Standing
+pub mod Laws
+pub mod Worked

@@ -1,0 +1,29 @@
+-- The text that a reader stands for.
+use Rattle.std.specs.Prelude.{◌≡◌, ◌<◌, ◌≤◌, ℕ, List, [], ◌∷◌, length}
+use Rattle.tower_sexp.specs.Standing.{StandsFor as LexerStandsFor}
+use Rattle.tower_sexp.specs.WholeTokens.{whole_tokens}
+use Rattle.tower_reader.specs.declared.reader.Reader.{Reader}
+use Rattle.tower_reader.specs.declared.reader.Stage.{Stage}
+use Rattle.tower_reader.specs.declared.reader.Stage.TheVariants as stage
+use Rattle.tower_reader.specs.Spelled.{byte_limit}
+use Rattle.tower_reader.specs.Machine.{bottom, run}
+use Rattle.tower_reader.specs.View.{frames_of}
+
+-- its lexer stands for the text, and its frames are what the whole tokens of the text make
+pub record Reads (r : Reader) (bs : List ℕ) : Type 0 where
+  pub lexer : LexerStandsFor r.lexer bs
+  pub frames : frames_of r.frames.items ≡ run (whole_tokens bs) (bottom ∷ [])
+  pub within : length bs ≤ byte_limit
+
+abbrev pub StandsBy : Stage → Reader → List ℕ → Type 0
+StandsBy stage.Reads r bs = Reads r bs
+StandsBy stage.Long r bs = byte_limit < length bs
+StandsBy stage.Failed r bs = ⊥
+
+-- opaque to the crates above
+unfoldable pub StandsFor : Reader → List ℕ → Type 0
+StandsFor r bs = StandsBy r.stage r bs
+
+-- a reader that ran out of memory
+abbrev pub HasFailed : Reader → Type 0
+HasFailed r = r.stage ≡ stage.Failed

@@ -1,0 +1,17 @@
+//! The laws of the definitions. Each is the contract of a function that does nothing.
+ghost use Rattle.tower_reader.specs.Laws.{VerdictSpells, VerdictFault};
+ghost use Rattle.tower_reader.specs.Worked.{WorkedTrees, WorkedTokens, WorkedForms, WorkedNumbers};
+
+/// `verdict` computes the tree of a text, or its fault. So a text spells one tree or has one fault, and never both.
+pub fn verdict_law()
+    ensures spells { VerdictSpells }
+    ensures fault { VerdictFault }
+{}
+
+/// Texts with their trees and faults.
+pub fn worked_texts()
+    ensures trees { WorkedTrees }
+    ensures tokens { WorkedTokens }
+    ensures forms { WorkedForms }
+    ensures numbers { WorkedNumbers }
+{}
