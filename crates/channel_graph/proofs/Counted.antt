@@ -1,5 +1,5 @@
 -- The messages of a list of statements, or of callbacks, that grows.
-use Rattle.std.proofs.Common.{◌≡◌, ℕ, ◌+◌, ◌*◌, ◌<◌, map, sum, length, get_or, take, List, [], ◌∷◌, ◌++◌, arith, ap, ◌∙◌}
+use Rattle.std.proofs.Common.{◌≡◌, ℕ, ◌+◌, ◌<◌, map, sum, length, get_or, take, List, [], ◌∷◌, ◌++◌, arith, ap, ◌∙◌}
 use Rattle.std.proofs.lemmas.List.{take_more}
 use Rattle.std.proofs.lemmas.List.Sums.{sum_by-cons}
 use Rattle.tower_syntax.specs.declared.body.Stmt.{Stmt as StmtValue}

@@ -1,14 +1,13 @@
 -- What the code asks of emitters: links to a handler, and emitters on marked channels.
-use Rattle.std.proofs.Common.{◌≡◌, ◌≢◌, ℕ, zero, suc, ◌+◌, ◌<◌, ◌≤◌, List, [], ◌∷◌, ◌++◌, length, get_or, take, map, slice_get, Some, Bool, true, false, ◌||◌, ◌==◌, arith, refl, sym, ◌∙◌, ap, subst, inl, inr}
+use Rattle.std.proofs.Common.{◌≡◌, ℕ, ◌+◌, ◌<◌, List, [], ◌∷◌, ◌++◌, length, get_or, take, map, slice_get, Some, Bool, true, false, ◌==◌, arith, refl, sym, ◌∙◌, ap, subst, inl, inr}
 use Rattle.std.specs.List.{list_any}
 use Rattle.std.proofs.lemmas.Bool.{false≢true, cases_Bool, eqb-true, eq-eqb}
 use Rattle.std.proofs.Math.Seq.{take-length}
 use Rattle.std.proofs.lemmas.List.{take_more, length-map}
-use Rattle.tower_syntax.specs.declared.arch.On.{On}
 use Rattle.tower_syntax.specs.declared.arch.On.TheVariants as on
 use Rattle.tower_syntax.specs.declared.arch.Emitter.{Emitter as EmitterValue}
 use Rattle.tower_syntax.specs.declared.arch.Handler.{Handler as HandlerValue}
-use Rattle.tower_syntax.specs.Arch.{Arch, Emitter}
+use Rattle.tower_syntax.specs.Arch.{Arch}
 use Rattle.tower_syntax.specs.View.{emitter_of, handler_of}
 use Rattle.tower_syntax.specs.Graph.{handler, leads, same_on}
 use Rattle.tower_syntax.specs.WellNumbered.{AreListeners, IsNumberedHandler}
@@ -16,7 +15,7 @@ use Rattle.tower_syntax.proofs.Elements.{kept}
 use Rattle.channel_graph.specs.Reaching.{is_on}
 use Rattle.channel_graph.specs.Ranked.{is_loud}
 use Rattle.channel_graph.proofs.Members.{In, any_has, has_any, In-get_or}
-use Rattle.channel_graph.proofs.Linked.{Link, link_of, of_link}
+use Rattle.channel_graph.proofs.Linked.{link_of, of_link}
 use Rattle.channel_graph.proofs.Searched.{handler_read}
 
 -- two tests that follow from each other

@@ -11,4 +11,5 @@ pub mod Shortest
 pub mod Led
 pub mod Rounds
 pub mod Sized
-pub mod Weighed
+pub mod Acyclic
+pub mod Peeled

@@ -1,5 +1,5 @@
 -- Which handlers a channel and a handler lead to, in a well numbered system.
-use Rattle.std.proofs.Common.{◌≡◌, ◌≢◌, ℕ, zero, suc, ◌+◌, ◌<◌, ◌≤◌, List, [], ◌∷◌, length, get_or, filter, cond, Bool, true, false, ◌||◌, ◌==◌, ◌⊎◌, inl, inr, Contains, arith, refl, sym, ◌∙◌, ap, subst}
+use Rattle.std.proofs.Common.{◌≡◌, ℕ, ◌<◌, List, [], ◌∷◌, length, true, inl, inr, refl, sym, ap, subst}
 use Rattle.std.proofs.lemmas.Bool.{false≢true, eqb-true, eq-eqb}
 use Rattle.std.specs.List.{list_any}
 use Rattle.tower_syntax.specs.declared.arch.On.{On}
@@ -7,10 +7,10 @@ use Rattle.tower_syntax.specs.declared.arch.On.TheVariants as on
 use Rattle.tower_syntax.specs.declared.arch.Listener.{Listener}
 use Rattle.tower_syntax.specs.declared.arch.Listener.TheVariants as to
 use Rattle.tower_syntax.specs.Arch.{Arch, Emitter}
-use Rattle.tower_syntax.specs.Graph.{numbers_before, handler_numbers, handler, hears, same_on, subs, is_handler, leads, handlers_on}
+use Rattle.tower_syntax.specs.Graph.{handler, hears, subs, is_handler, leads}
 use Rattle.tower_syntax.specs.WellNumbered.{AreListeners, handlers_among}
 use Rattle.channel_graph.specs.Reaching.{is_on}
-use Rattle.channel_graph.proofs.Members.{In, Passes, any_has, has_any, filter_has, has_filter, number_below, below_number}
+use Rattle.channel_graph.proofs.Members.{In, any_has, has_any, filter_has, has_filter, number_below, below_number}
 
 among_has : (ls : List Listener) (k : ℕ) → In (to.Handler k) ls → In k (handlers_among ls)
 among_has [] k h = h

@@ -1,11 +1,10 @@
 -- Lists of numbers, and the listeners of a well numbered system.
-use Rattle.std.proofs.Common.{◌≡◌, ℕ, zero, suc, ◌+◌, ◌<◌, ◌≤◌, List, [], ◌∷◌, ◌++◌, length, get_or, slice_get, Some, None, All, Contains, filter, Bool, true, false, arith, ap, sym, ◌∙◌, subst, refl, append_assoc}
+use Rattle.std.proofs.Common.{◌≡◌, ℕ, zero, suc, ◌<◌, ◌≤◌, List, [], ◌∷◌, ◌++◌, length, get_or, arith, ap, sym, ◌∙◌, refl, append_assoc}
 use Rattle.tower_syntax.specs.declared.arch.On.{On}
-use Rattle.tower_syntax.specs.declared.arch.On.TheVariants as on
 use Rattle.tower_syntax.specs.declared.arch.Listener.{Listener}
 use Rattle.tower_syntax.specs.declared.arch.Listener.TheVariants as to
 use Rattle.tower_syntax.specs.Arch.{Arch}
-use Rattle.tower_syntax.specs.Graph.{numbers_before, handler_numbers, hears, same_on}
+use Rattle.tower_syntax.specs.Graph.{numbers_before, hears, same_on}
 use Rattle.tower_syntax.specs.WellNumbered.{AreListeners, outputs_among, handlers_among}
 use Rattle.channel_graph.specs.Listening.{attached, Exists}
 

@@ -1,6 +1,6 @@
 -- What a list has, by recursion, beside tests and filters.
-use Rattle.std.proofs.Common.{◌≡◌, ◌≢◌, ℕ, zero, suc, ◌+◌, ◌<◌, ◌≤◌, List, [], ◌∷◌, length, get_or, filter, cond, Bool, true, false, ◌||◌, ◌==◌, ◌⊎◌, inl, inr, Contains, arith, refl, sym, ◌∙◌, ap, subst}
-use Rattle.std.proofs.lemmas.Bool.{false≢true, cases_Bool, or_cases, cases_lt, eqb-true, eq-eqb}
+use Rattle.std.proofs.Common.{◌≡◌, ℕ, zero, suc, ◌+◌, ◌<◌, ◌≤◌, List, [], ◌∷◌, length, get_or, filter, cond, Bool, true, false, ◌||◌, ◌⊎◌, inl, inr, Contains, arith, refl, sym, ◌∙◌, ap, subst}
+use Rattle.std.proofs.lemmas.Bool.{false≢true, cases_Bool, or_cases, cases_lt}
 use Rattle.std.specs.List.{list_any}
 use Rattle.tower_syntax.specs.Graph.{numbers_before}
 

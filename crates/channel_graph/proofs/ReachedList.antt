@@ -1,5 +1,5 @@
 -- The list of marked handlers is the weights' list of what a source reaches.
-use Rattle.std.proofs.Common.{◌≡◌, ℕ, ◌<◌, ◌↔◌, List, [], length, get_or, filter, Bool, true, false, Contains, refl, sym, ◌∙◌, ap, subst}
+use Rattle.std.proofs.Common.{◌≡◌, ℕ, ◌↔◌, List, [], length, get_or, filter, Bool, true, false, Contains, sym, ◌∙◌, ap, subst}
 use Rattle.tower_syntax.specs.declared.arch.On.TheVariants as on
 use Rattle.tower_syntax.specs.declared.arch.Listener.TheVariants as to
 use Rattle.tower_syntax.specs.Arch.{Arch}
@@ -7,10 +7,10 @@ use Rattle.tower_syntax.specs.Graph.{numbers_before, handler_numbers, hears, sub
 use Rattle.tower_syntax.specs.Graph as graph
 use Rattle.tower_syntax.specs.WellNumbered.{AreListeners}
 use Rattle.channel_graph.specs.declared.reach.Start.TheVariants as start
-use Rattle.channel_graph.specs.Reaching.{Follows, begins, goes, AreReached, IsMarked}
-use Rattle.channel_graph.proofs.Members.{In, filter_has, has_filter, below_number, In-from_contains, contains_from_In, filter-agree}
+use Rattle.channel_graph.specs.Reaching.{Follows, begins, goes, AreReached}
+use Rattle.channel_graph.proofs.Members.{In, filter_has, has_filter, In-from_contains, contains_from_In, filter-agree}
 use Rattle.channel_graph.proofs.Linked.{listed_below, below_listed}
-use Rattle.channel_graph.proofs.Closed.{kept, reached_closed, listed_is_reached, reached_is_listed}
+use Rattle.channel_graph.proofs.Closed.{reached_closed, listed_is_reached, reached_is_listed}
 
 pub reaches_follows : (arch : Arch) (s : ℕ) → AreListeners arch → (k : ℕ) → Reaches arch s k → Follows arch (start.Source s) k
 reaches_follows arch s listed k (graph.begins h c) =

@@ -1,17 +1,17 @@
 -- The ranks of handlers, and the walk that they show.
-use Rattle.std.proofs.Common.{◌≡◌, ◌≢◌, ℕ, zero, suc, ◌+◌, ◌-◌, ◌<◌, ◌≤◌, List, [], ◌∷◌, ◌++◌, length, get_or, set, filter, cond, Option, Some, None, unwrap_or, Bool, true, false, ◌||◌, ◌&&◌, ◌==◌, nat_lt, nat_le, ◌⊎◌, inl, inr, arith, refl, sym, ◌∙◌, ap, subst, append_assoc, All}
-use Rattle.std.specs.List.{list_any, find}
-use Rattle.std.proofs.lemmas.Bool.{false≢true, cases_Bool, cases_eq, cases_lt, eqb-true, eq-eqb, ne_eqb, and_from, and_right, and_parts, lt-ltb, ltb-true, le-leb, leb-true}
+use Rattle.std.proofs.Common.{◌≡◌, ℕ, zero, suc, ◌+◌, ◌-◌, ◌<◌, ◌≤◌, List, [], ◌∷◌, ◌++◌, length, get_or, set, cond, Option, Some, None, unwrap_or, Bool, true, false, ◌||◌, ◌&&◌, ◌==◌, nat_lt, nat_le, ◌⊎◌, inl, inr, arith, refl, sym, ◌∙◌, ap, subst, append_assoc, All}
+use Rattle.std.specs.List.{list_any}
+use Rattle.std.proofs.lemmas.Bool.{false≢true, cases_Bool, cases_lt, eqb-true, eq-eqb, ne_eqb, and_from, and_right, and_parts, lt-ltb, ltb-true, le-leb, leb-true}
 use Rattle.std.proofs.lemmas.List.{length-set, length-append, get_or_append_left}
 use Rattle.std.proofs.Math.Seq.{get_or-append_seam}
 use Rattle.tower_syntax.specs.declared.arch.On.{On}
 use Rattle.tower_syntax.specs.declared.arch.On.TheVariants as on
 use Rattle.tower_syntax.specs.Arch.{Arch, Emitter}
 use Rattle.tower_syntax.specs.Graph.{numbers_before, handler_numbers, handler, no_handler, leads, same_on, reached_by}
-use Rattle.tower_syntax.specs.WellNumbered.{AreListeners, IsWellNumbered, IsNumberedHandler}
+use Rattle.tower_syntax.specs.WellNumbered.{AreListeners, IsWellNumbered}
 use Rattle.channel_graph.specs.Reaching.{is_on, IsMarked, IsWithin, AreReached}
-use Rattle.channel_graph.specs.Circuit.{near, wider, leads_near, circuit, nearer, walk, walk_if, walk_round, first_of_all, found_at, shown_at}
-use Rattle.channel_graph.specs.Ranked.{rank, is_near, AreRanked, Hearer, AreLoud, is_loud, ranked_next, Widens, least_ranked, MarksChannel, AreLooping, marked_below}
+use Rattle.channel_graph.specs.Circuit.{near, wider, leads_near, nearer, walk, walk_if, walk_round, first_of_all, found_at, shown_at}
+use Rattle.channel_graph.specs.Ranked.{rank, is_near, AreRanked, AreLoud, is_loud, ranked_next, Widens, least_ranked, MarksChannel, AreLooping, marked_below}
 use Rattle.channel_graph.proofs.Members.{In, any_has, has_any, filter_has, number_below, contains_from_In}
 use Rattle.channel_graph.proofs.Linked.{link_of, of_link}
 use Rattle.channel_graph.proofs.Searched.{marked_set, set_marked, channel_marked}
@@ -234,9 +234,8 @@ walk_step arch h (suc m) at next way more w pos e f g =
 -- ---- the first walk of all
 
 -- one more handler is marked if it leads back to itself
-pub looping_more : (arch : Arch) (n : ℕ) (marks reached more : List Bool) → AreLooping arch n marks → AreReached arch (start.Handler n) reached → more ≡ marks ++ get_or reached n false ∷ [] → AreLooping arch (n + 1) more
-looping_more arch n marks reached more l r e =
-    let b = get_or reached n false in
+pub looping_more : (arch : Arch) (n : ℕ) (marks more : List Bool) (b : Bool) → AreLooping arch n marks → (b ≡ false → walk_round arch n ≡ None) → more ≡ marks ++ b ∷ [] → AreLooping arch (n + 1) more
+looping_more arch n marks more b l r e =
     subst (AreLooping arch (n + 1)) (sym e) (record {
       each = omega (arith, length-append marks (b ∷ []), l.each);
       others = λ h below none. elim (cases_lt h n) [
@@ -247,9 +246,13 @@ looping_more arch n marks reached more l r e =
             let here : h ≡ length marks = omega (arith, l.each) in
             let at : h ≡ n = omega arith in
             let unmarked : b ≡ false = sym (get_or-append_seam marks b [] false) ∙ ap (λ i. get_or (marks ++ b ∷ []) i false) (sym here) ∙ none in
-            subst (λ i. walk_round arch i ≡ None) (sym at) (no_walk arch n (λ f. false≢true (sym unmarked ∙ r.follows n f)))
+            subst (λ i. walk_round arch i ≡ None) (sym at) (r unmarked)
       ];
     })
+
+-- a handler that its own search did not mark has no walk round
+pub unmarked_none : (arch : Arch) (h : ℕ) (reached : List Bool) → AreReached arch (start.Handler h) reached → get_or reached h false ≡ false → walk_round arch h ≡ None
+unmarked_none arch h reached r unmarked = no_walk arch h (λ f. false≢true (sym unmarked ∙ r.follows h f))
 
 pub round_none : (arch : Arch) (marks : List Bool) (n : ℕ) → first_of_all (walk_round arch) (marked_below marks n) ≡ None → (get_or marks n false ≡ false) ⊎ (walk_round arch n ≡ None) → first_of_all (walk_round arch) (marked_below marks (n + 1)) ≡ None
 round_none arch marks n before here =

@@ -1,5 +1,5 @@
 -- Sums and products that stop at a limit.
-use Rattle.std.proofs.Common.{◌≡◌, ℕ, ◌+◌, ◌*◌, ◌<◌, min, zero, suc, inl, inr, arith}
+use Rattle.std.proofs.Common.{◌≡◌, ℕ, ◌+◌, ◌*◌, min, zero, suc, inl, inr, arith}
 use Rattle.std.proofs.Common.{◌-◌, ◌^◌}
 use Rattle.tower_types.specs.Records.{saturated}
 use Rattle.std.proofs.Math.Nat.{le-mul_of_pos_right, mul_comm}

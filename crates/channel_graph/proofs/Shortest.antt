@@ -1,5 +1,5 @@
 -- First answers in lists of numbers, and what is near a handler.
-use Rattle.std.proofs.Common.{◌≡◌, ◌≢◌, ℕ, zero, suc, ◌+◌, ◌<◌, ◌≤◌, List, [], ◌∷◌, ◌++◌, length, get_or, filter, cond, Option, Some, None, Bool, true, false, ◌||◌, ◌&&◌, ◌==◌, ◌⊎◌, inl, inr, arith, refl, sym, ◌∙◌, ap, subst}
+use Rattle.std.proofs.Common.{◌≡◌, ℕ, zero, suc, ◌+◌, ◌<◌, List, [], ◌∷◌, ◌++◌, length, filter, cond, Option, Some, None, Bool, true, false, ◌||◌, ◌==◌, ◌⊎◌, inl, inr, arith, refl, sym, ◌∙◌, ap, subst}
 use Rattle.std.specs.List.{list_any, find}
 use Rattle.std.proofs.lemmas.Bool.{false≢true, cases_Bool, or_cases, cases_lt, eqb-true, eq-eqb}
 use Rattle.tower_syntax.specs.Arch.{Arch}
@@ -7,13 +7,13 @@ use Rattle.tower_syntax.specs.Graph.{numbers_before, handler_numbers, leads}
 use Rattle.channel_graph.specs.declared.reach.Start.{Start}
 use Rattle.channel_graph.specs.declared.reach.Start.TheVariants as start
 use Rattle.channel_graph.specs.Reaching.{Follows, begins, goes}
-use Rattle.channel_graph.specs.Circuit.{near, wider, leads_near, circuit, walk, walk_if, walk_round, or_else, first_of_all}
+use Rattle.channel_graph.specs.Circuit.{near, wider, leads_near, walk_if, walk_round, or_else, first_of_all}
 use Rattle.channel_graph.specs.Ranked.{is_near}
 use Rattle.std.proofs.Common.{zero-add}
 use Rattle.tower_syntax.specs.WellNumbered.{AreListeners}
 use Rattle.channel_graph.proofs.Linked.{link_of}
 use Rattle.channel_graph.proofs.Listed.{numbers_before-suc}
-use Rattle.channel_graph.proofs.Members.{In, or_left, or_right, any_has, has_any, filter_has, has_filter, number_below, below_number}
+use Rattle.channel_graph.proofs.Members.{In, or_left, or_right, any_has, has_any, filter_has, has_filter, below_number}
 
 -- ---- first answers
 

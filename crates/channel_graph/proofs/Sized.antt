@@ -1,5 +1,5 @@
 -- Words of types and fields, and sums that stop at a limit.
-use Rattle.std.proofs.Common.{◌≡◌, ℕ, zero, suc, ◌+◌, ◌*◌, ◌<◌, ◌≤◌, min, max, map, sum, length, get_or, take, filter, List, [], ◌∷◌, ◌++◌, All, cond, Bool, true, false, arith, refl, ap, sym, ◌∙◌, subst}
+use Rattle.std.proofs.Common.{◌≡◌, ℕ, suc, ◌+◌, ◌<◌, ◌≤◌, map, sum, length, get_or, take, filter, List, [], ◌∷◌, ◌++◌, All, cond, Bool, true, false, arith, refl, ap, sym, ◌∙◌}
 use Rattle.std.proofs.lemmas.List.Sums.{sum_by-cons}
 use Rattle.std.proofs.Common.{add-zero}
 use Rattle.std.proofs.lemmas.List.{take_more, length-map}
@@ -7,9 +7,8 @@ use Rattle.std.proofs.lemmas.List.Elements.{filter-append}
 use Rattle.tower_syntax.proofs.Elements.{kept}
 use Rattle.tower_syntax.specs.Graph.{numbers_before}
 use Rattle.channel_graph.proofs.Listed.{numbers_before-suc}
-use Rattle.tower_types.specs.Ty.{Ty, scalar, array, rec, Shape, Shapes, no_shapes, shape, shapes_of, words, words_of_all, nesting, Fields, shape_in}
+use Rattle.tower_types.specs.Ty.{Ty, scalar, array, rec, Shape, shapes_of, words, words_of_all, nesting}
 use Rattle.tower_types.specs.Records.{IsTypeAmong}
-use Rattle.tower_syntax.specs.Weights.{field_shapes}
 use Rattle.tower_syntax.specs.WellNumbered.{IsNumberedType, type_height}
 
 nesting_below : (t : Ty) → nesting t ≤ type_height t

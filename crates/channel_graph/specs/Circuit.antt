@@ -1,9 +1,11 @@
 -- The cycle that is shown: of the first source that reaches one, from its least handler on, by the shortest walk.
-use Rattle.std.specs.Prelude.{ℕ, zero, suc, List, [], ◌∷◌, length, filter, find, Option, Some, None, is_some, unwrap_or, Bool, true, false, ◌||◌, ◌&&◌, ◌==◌}
+use Rattle.std.specs.Prelude.{ℕ, zero, suc, ◌<◌, List, [], ◌∷◌, length, filter, find, Option, Some, None, unwrap_or, Bool, ◌||◌, ◌&&◌, ◌==◌}
 use Rattle.std.specs.List.{list_any}
 use Rattle.tower_syntax.specs.Arch.{Arch}
-use Rattle.tower_syntax.specs.Graph.{leads, handler_numbers, numbers_before, reached_by}
+use Rattle.tower_syntax.specs.Graph.{leads, handler_numbers, numbers_before, reached_by, Reaches}
 use Rattle.tower_syntax.specs.Weights.{source_numbers}
+use Rattle.channel_graph.specs.declared.reach.Start.TheVariants as start
+use Rattle.channel_graph.specs.Reaching.{Follows}
 use Rattle.channel_graph.specs.declared.circuit.CycleFound.{CycleFound}
 
 -- these handlers, and those that lead to one of them, ascending
@@ -59,3 +61,11 @@ shown_at arch s = found_at s (first_of_all (walk_round arch) (reached_by arch s)
 
 abbrev pub shown : Arch → Option CycleFound
 shown arch = first_of_all (shown_at arch) (source_numbers arch)
+
+-- links lead from h back to itself
+abbrev pub LeadsBack : Arch → ℕ → Type 0
+LeadsBack arch h = Follows arch (start.Handler h) h
+
+-- no source reaches a handler that leads back to itself
+abbrev pub IsAcyclic : Arch → Type 0
+IsAcyclic arch = (s h : ℕ) → s < length arch.sources → Reaches arch s h → LeadsBack arch h → ⊥

@@ -3,4 +3,4 @@ pub mod Reaching
 pub mod Circuit
 pub mod Worked
 pub mod Ranked
-pub mod Stepped
+pub mod Settled

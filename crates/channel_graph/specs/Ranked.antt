@@ -1,5 +1,5 @@
 -- How far a search for a walk back to a handler has come.
-use Rattle.std.specs.Prelude.{ℕ, ◌+◌, ◌<◌, ◌≤◌, ◌≡◌, ◌↔◌, List, [], length, find, filter, slice_index_or, slice_set, unwrap_or, Option, None, cond, nat_lt, nat_le, Bool, true, false, ◌&&◌, ◌==◌}
+use Rattle.std.specs.Prelude.{ℕ, ◌+◌, ◌<◌, ◌≤◌, ◌≡◌, List, [], length, find, filter, slice_index_or, slice_set, unwrap_or, None, cond, nat_lt, nat_le, Bool, true, false, ◌&&◌, ◌==◌}
 use Rattle.std.specs.List.{list_any}
 use Rattle.tower_syntax.specs.declared.arch.On.{On}
 use Rattle.tower_syntax.specs.declared.arch.On.TheVariants as on

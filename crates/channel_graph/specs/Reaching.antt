@@ -1,5 +1,5 @@
 -- What a source reaches, or a handler leads to, and how far a search for it has come.
-use Rattle.std.specs.Prelude.{ℕ, ◌+◌, ◌<◌, ◌≤◌, ◌≡◌, ◌↔◌, ◌++◌, List, [], ◌∷◌, length, filter, slice_index_or, slice_set, count_by, Bool, true, false, Contains, MatchBool}
+use Rattle.std.specs.Prelude.{ℕ, ◌<◌, ◌≤◌, ◌≡◌, ◌++◌, List, [], ◌∷◌, length, filter, slice_index_or, slice_set, count_by, Bool, true, false, Contains, MatchBool}
 use Rattle.tower_syntax.specs.declared.arch.On.{On}
 use Rattle.tower_syntax.specs.declared.arch.On.TheVariants as on
 use Rattle.tower_syntax.specs.Arch.{Arch, Emitter}

@@ -1,5 +1,5 @@
 -- Small systems with cycles, and one with loops, beside what is shown and counted.
-use Rattle.std.specs.Prelude.{◌≡◌, [], ◌∷◌, Option, Some, None, codes, map}
+use Rattle.std.specs.Prelude.{◌≡◌, [], ◌∷◌, Some, None, codes, map}
 use Rattle.tower_types.specs.declared.scalar.Scalar.TheVariants.{Ix}
 use Rattle.tower_types.specs.Ty.{scalar}
 use Rattle.tower_syntax.specs.declared.body.Root.TheVariants.{Param, State}
@@ -12,7 +12,6 @@ use Rattle.tower_syntax.specs.Weights.{most, cost, source_numbers}
 use Rattle.tower_syntax.specs.Examples.{cyc, clock, emitter, callback, handler, value_at, whole}
 use Rattle.tower_syntax.specs.Flight.{flight}
 use Rattle.channel_graph.specs.Circuit.{shown}
-use Rattle.channel_graph.specs.declared.circuit.CycleFound.{CycleFound}
 
 -- `cyc` with a first handler g on s that emits on a
 abbrev pub ring : Arch

@@ -1,14 +1,16 @@
 //! The cycle of a system that is shown.
 
-ghost use Rattle.std.specs.Prelude.{◌≡◌, ℕ, ◌<◌, ◌≤◌, ◌+◌, ◌^◌, ◌==◌, length, slice_index_or, false, true, IfOk};
+ghost use Rattle.std.specs.Prelude.{◌≡◌, ◌<◌, ◌^◌, ◌==◌, length, false, IfOk, ◌↔◌};
 ghost use Rattle.std.specs.List.{list_any};
-ghost use Rattle.tower_syntax.specs.Graph.{leads, reached_by};
-ghost use Rattle.tower_syntax.specs.WellNumbered.{AreListeners, IsWellNumbered, IsNumberedOn};
-ghost use Rattle.channel_graph.specs.Reaching.{AreAudiences, IsMarked, IsWithin};
-ghost use Rattle.channel_graph.specs.Circuit.{walk, walk_round, first_of_all, shown, shown_at};
+ghost use Rattle.tower_syntax.specs.Graph.{leads};
+ghost use Rattle.tower_syntax.specs.WellNumbered.{AreListeners, IsWellNumbered};
+ghost use Rattle.channel_graph.specs.Reaching.{AreAudiences, IsWithin};
+ghost use Rattle.channel_graph.specs.Circuit.{walk, walk_round, first_of_all, shown, shown_at, IsAcyclic};
+ghost use Rattle.channel_graph.specs.Settled.{IsSettled};
 ghost use Rattle.channel_graph.specs.Ranked.{AreRanked, AreLoud, is_loud, MarksChannel, AreLooping, Widens, least_ranked, marked_below};
 
 use crate::reach::{Start, audiences, reach_from};
+use crate::settled::settled;
 use sqlite_items::Items;
 use std::alloc::Global;
 use tower_syntax::{Arch, Emitter, On};
@@ -163,15 +165,38 @@ fn way_round(alloc: Global, arch: &Arch, h: u32) -> Result<Option<Items<u32>>, N
     Ok(None)
 }
 
+/// Whether a handler leads back to itself.
+fn is_looping(
+    alloc: Global,
+    arch: &Arch,
+    heard: &[Items<u32>],
+    done: &[bool],
+    h: u32,
+) -> Result<bool, NoMemory>
+    requires heard { AreAudiences arch.now (length arch.now.handlers) heard.now }
+    requires listed { AreListeners arch.now }
+    requires done { IsSettled arch.now done.now }
+    requires handler { h < length arch.now.handlers }
+    ensures { IfOk result (λ found. found ≡ false → walk_round arch.now h ≡ None) }
+{
+    if done[h as usize] {
+        return Ok(false);
+    }
+    let reached = reach_from(alloc, arch, heard, Start::Handler(h))?;
+    Ok(reached.as_slice()[h as usize])
+}
+
 /// Marks each handler that leads back to itself.
 fn looping(alloc: Global, arch: &Arch, heard: &[Items<u32>]) -> Result<Items<bool>, NoMemory>
-    requires { AreAudiences arch.now (length arch.now.handlers) heard.now }
+    requires heard { AreAudiences arch.now (length arch.now.handlers) heard.now }
+    requires listed { AreListeners arch.now }
     ensures { IfOk result (AreLooping arch.now (length arch.now.handlers)) }
 {
+    let done = settled(alloc, arch, heard)?;
     let mut marks = Items::new(alloc);
     for h in 0..arch.handlers().len() {
-        let reached = reach_from(alloc, arch, heard, Start::Handler(h as u32))?;
-        marks.push(reached.as_slice()[h])?;
+        let back = is_looping(alloc, arch, heard, done.as_slice(), h as u32)?;
+        marks.push(back)?;
     }
     Ok(marks)
 }
@@ -185,7 +210,8 @@ fn first_round(
 ) -> Result<Option<Items<u32>>, NoMemory>
     requires marks { length marks.now ≡ length arch.now.handlers }
     requires looping { AreLooping arch.now (length arch.now.handlers) looping.now }
-    ensures { IfOk result (λ way. way ≡ first_of_all (walk_round arch.now) (marked_below marks.now (length arch.now.handlers))) }
+    ensures { IfOk result (λ way.
+        way ≡ first_of_all (walk_round arch.now) (marked_below marks.now (length arch.now.handlers))) }
 {
     for k in 0..arch.handlers().len() {
         if marks[k] && looping[k] {
@@ -220,7 +246,8 @@ fn cycle_of(
 /// The cycle of the first source that reaches a handler which leads back to itself: from the least such handler on,
 /// each time to the least handler that is one link nearer to it.
 pub fn cycle(alloc: Global, arch: &Arch) -> Result<Option<CycleFound>, NoMemory>
-    ensures { IfOk result (λ found. found ≡ shown arch.now) }
+    ensures shown { IfOk result (λ found. found ≡ shown arch.now) }
+    ensures none { IfOk result (λ found. (found ≡ None) ↔ IsAcyclic arch.now) }
 {
     let heard = audiences(alloc, arch)?;
     let loops = looping(alloc, arch, heard.as_slice())?;

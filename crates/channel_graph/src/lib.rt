@@ -1,5 +1,5 @@
-//! Who hears whom in a system: subscribers, what a source reaches, the cycle that is shown, and how many messages a
-//! handler may emit.
+//! Who hears whom in a system: subscribers, what a source reaches, the cycle that is shown, how many messages a handler
+//! may emit, and how much memory a system needs.
 #![tactic(auto)]
 
 mod circuit;
@@ -7,7 +7,7 @@ mod counting;
 pub mod laws;
 mod listening;
 mod reach;
-mod section;
+mod settled;
 mod size;
 
 pub use circuit::{CycleFound, cycle};

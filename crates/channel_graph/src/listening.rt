@@ -1,6 +1,6 @@
 //! The subscribers of a source or channel.
 
-ghost use Rattle.std.specs.Prelude.{◌≡◌, ◌<◌, length, IfOk};
+ghost use Rattle.std.specs.Prelude.{◌≡◌, IfOk};
 ghost use Rattle.tower_syntax.specs.Graph.{subs, same_on};
 ghost use Rattle.channel_graph.specs.Listening.{attached, Exists};
 

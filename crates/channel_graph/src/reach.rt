@@ -1,7 +1,6 @@
 //! What a source reaches, and what a handler leads to: each handler and each channel is looked at once.
 
-ghost use Rattle.std.specs.Prelude.{◌≡◌, ◌<◌, ◌≤◌, ◌^◌, ◌+◌, ◌++◌, ◌∷◌, [], ℕ, length, filter, true, false, slice_set, slice_index_or, All, IfOk, OnOk, Contains, ◌↔◌};
-ghost use Rattle.tower_syntax.specs.View.{handler_of};
+ghost use Rattle.std.specs.Prelude.{◌≡◌, ◌<◌, ◌≤◌, ◌^◌, [], ℕ, length, filter, true, false, slice_index_or, All, IfOk, OnOk, Contains, ◌↔◌};
 ghost use Rattle.tower_syntax.specs.Graph.{handler, leads, numbers_before, reached_by, Reaches};
 ghost use Rattle.tower_syntax.specs.WellNumbered.{AreListeners, IsWellNumbered};
 ghost use Rattle.tower_syntax.specs.declared.arch.On.TheVariants as on;
@@ -48,9 +47,11 @@ impl Reach {
     fn visit_all(&mut self, arch: &Arch, ks: &[u32]) -> Result<(), NoMemory>
         requires reach { IsReach arch.now self.old }
         requires within { All (λ k. k < length arch.now.handlers) ks.now }
-        requires follow { (j : ℕ) → j < length ks.now → Follows arch.now self.old.from (slice_index_or ks.now j 0) }
+        requires follow { (j : ℕ) → j < length ks.now
+            → Follows arch.now self.old.from (slice_index_or ks.now j 0) }
         ensures goes { OnOk result (Goes arch.now self.old self.new) }
-        ensures marked { OnOk result ((j : ℕ) → j < length ks.now → IsMarked self.new.handlers (slice_index_or ks.now j 0)) }
+        ensures marked { OnOk result ((j : ℕ) → j < length ks.now
+            → IsMarked self.new.handlers (slice_index_or ks.now j 0)) }
     {
         for k in ks {
             self.visit(*k)?;
@@ -63,7 +64,8 @@ impl Reach {
         requires reach { IsReach arch.now self.old }
         requires heard { AreAudiences arch.now (length arch.now.handlers) heard.now }
         requires channel { c < length arch.now.channels }
-        requires follow { (k : ℕ) → k < length arch.now.handlers → is_on arch.now (on.Channel c) k ≡ true → Follows arch.now self.old.from k }
+        requires follow { (k : ℕ) → k < length arch.now.handlers → is_on arch.now (on.Channel c) k ≡ true
+            → Follows arch.now self.old.from k }
         ensures goes { OnOk result (Goes arch.now self.old self.new) }
         ensures marked { OnOk result (IsMarked self.new.channels c) }
     {
@@ -96,7 +98,8 @@ impl Reach {
         requires heard { AreAudiences arch.now (length arch.now.handlers) heard.now }
         requires listed { AreListeners arch.now }
         ensures goes { OnOk result (Goes arch.now self.old self.new) }
-        ensures closed { OnOk result ((h k : ℕ) → IsMarked self.new.handlers h → leads arch.now h k ≡ true → IsMarked self.new.handlers k) }
+        ensures closed { OnOk result ((h k : ℕ) → IsMarked self.new.handlers h → leads arch.now h k ≡ true
+            → IsMarked self.new.handlers k) }
     {
         let mut done = 0;
         while done < self.order.len() {
@@ -112,7 +115,8 @@ impl Reach {
         requires reach { IsReach arch.now self.old }
         requires from { self.old.from ≡ start.Source s }
         ensures goes { OnOk result (Goes arch.now self.old self.new) }
-        ensures marked { OnOk result ((k : ℕ) → k < length arch.now.handlers → is_on arch.now (on.Source s) k ≡ true → IsMarked self.new.handlers k) }
+        ensures marked { OnOk result ((k : ℕ) → k < length arch.now.handlers
+            → is_on arch.now (on.Source s) k ≡ true → IsMarked self.new.handlers k) }
     {
         let first = handlers_on(alloc, arch, On::Source(s))?;
         self.visit_all(arch, first.as_slice())?;
@@ -213,7 +217,8 @@ pub(crate) fn reach_from(
 /// The numbers that are marked, ascending.
 fn marked_numbers(alloc: Global, marks: &[bool]) -> Result<Vec<u32>, NoMemory>
     requires { length marks.now ≤ 2 ^ 32 }
-    ensures { IfOk result (λ found. found.items ≡ filter (λ k. slice_index_or marks.now k false) (numbers_before (length marks.now) [])) }
+    ensures { IfOk result (λ found. found.items
+        ≡ filter (λ k. slice_index_or marks.now k false) (numbers_before (length marks.now) [])) }
 {
     let mut found = Vec::new(alloc);
     for (k, mark) in marks.iter().enumerate() {

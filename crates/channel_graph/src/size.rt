@@ -1,6 +1,6 @@
 //! The words of memory that a system needs, or 2^64 - 1 where it needs more.
 
-ghost use Rattle.std.specs.Prelude.{◌≡◌, ◌<◌, ◌≤◌, ◌+◌, ◌*◌, length, All, IfOk, map, sum};
+ghost use Rattle.std.specs.Prelude.{◌≡◌, ◌<◌, ◌+◌, ◌*◌, length, All, IfOk, map, sum};
 ghost use Rattle.tower_types.specs.Ty.{words, shape_in, table_of};
 ghost use Rattle.tower_types.specs.View.{ty_of, fields_of};
 ghost use Rattle.tower_types.specs.Records.{saturated};
@@ -51,7 +51,9 @@ fn fields_words(arch: &Arch, fields: &[(Name, Ty)]) -> u64
 /// The words of all that callbacks bind.
 fn binder_words(arch: &Arch, bodies: &[Body]) -> u64
     requires { All (λ b. AreNumberedFields (length arch.now.records) b.binders) (map body_of bodies.now) }
-    ensures { result ≡ saturated (sum (map (λ b. sum (map words (field_shapes (table_of arch.now.records) b.binders))) (map body_of bodies.now))) }
+    ensures { result ≡ saturated (sum (map
+        (λ b. sum (map words (field_shapes (table_of arch.now.records) b.binders)))
+        (map body_of bodies.now))) }
 {
     let mut total: u64 = 0;
     for body in bodies {
@@ -72,7 +74,9 @@ fn buffer_words(arch: &Arch, emitter: &Emitter) -> u64
 /// The words of all buffers.
 fn buffers_words(arch: &Arch, emitters: &[Emitter]) -> u64
     requires { All (λ e. e.channel < length arch.now.channels) (map emitter_of emitters.now) }
-    ensures { result ≡ saturated (sum (map (λ e. (e.bound + 2) * emitter_words arch.now e) (map emitter_of emitters.now))) }
+    ensures { result ≡ saturated (sum (map
+        (λ e. (e.bound + 2) * emitter_words arch.now e)
+        (map emitter_of emitters.now))) }
 {
     let mut total: u64 = 0;
     for emitter in emitters {
@@ -114,7 +118,9 @@ fn states_words(arch: &Arch) -> u64
 /// The words of all marked handlers.
 fn handlers_words(arch: &Arch, marks: &[bool]) -> u64
     requires { length marks.now ≡ length arch.now.handlers }
-    ensures { result ≡ saturated (sum (map (λ h. handler_memory arch.now (handler arch.now h)) (marked_below marks.now (length arch.now.handlers)))) }
+    ensures { result ≡ saturated (sum (map
+        (λ h. handler_memory arch.now (handler arch.now h))
+        (marked_below marks.now (length arch.now.handlers)))) }
 {
     let mut total: u64 = 0;
     for k in 0..arch.handlers().len() {

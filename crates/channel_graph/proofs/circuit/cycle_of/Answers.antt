@@ -1,4 +1,4 @@
-use Rattle.std.proofs.Common.{◌≡◌, ◌∙◌, ap, sym}
+use Rattle.std.proofs.Common.{◌∙◌, ap, sym}
 use Rattle.channel_graph.specs.Circuit.{found_at}
 use Rattle.channel_graph.proofs.Rounds.{rounds_of}
 use Rattle.channel_graph.proofs.circuit.cycle_of.Goals as goal

@@ -1,4 +1,4 @@
-use Rattle.std.proofs.Common.{◌≡◌, ◌<◌, ◌∙◌, length, arith, ap, sym, inl, inr}
+use Rattle.std.proofs.Common.{◌<◌, ◌∙◌, length, arith, ap, sym, inl, inr}
 use Rattle.std.proofs.lemmas.List.{length-map}
 use Rattle.tower_syntax.specs.View.{handler_of}
 use Rattle.channel_graph.proofs.Rounds.{round_none, round_found}

@@ -1,4 +1,4 @@
-use Rattle.std.proofs.Common.{◌≡◌, ◌+◌, ◌<◌, ℕ, get_or, false, ◌&&◌, nat_lt, nat_le}
+use Rattle.std.proofs.Common.{◌≡◌, ◌+◌, ◌<◌, ℕ, false, ◌&&◌, nat_lt, nat_le}
 use Rattle.tower_syntax.specs.Graph.{leads}
 use Rattle.channel_graph.specs.Ranked.{rank}
 use Rattle.channel_graph.proofs.circuit.least_nearer.Given as goal

@@ -1,4 +1,4 @@
-use Rattle.std.proofs.Common.{◌≡◌, ◌≤◌, ◌∙◌, arith}
+use Rattle.std.proofs.Common.{◌∙◌, arith}
 use Rattle.channel_graph.proofs.Rounds.{least_is_nearer, walk_step}
 use Rattle.channel_graph.proofs.circuit.walk_back.Goals as goal
 

@@ -1,4 +1,4 @@
-use Rattle.std.proofs.Common.{◌≡◌, ◌<◌, ◌≤◌, ◌∙◌, ℕ, false, true, length, arith, ap, sym, subst, refl, below_more}
+use Rattle.std.proofs.Common.{◌≡◌, ◌<◌, ◌≤◌, ◌∙◌, false, true, length, arith, ap, sym, subst, refl, below_more}
 use Rattle.std.proofs.lemmas.List.{length-map}
 use Rattle.tower_syntax.specs.View.{handler_of}
 use Rattle.channel_graph.specs.Circuit.{leads_near}

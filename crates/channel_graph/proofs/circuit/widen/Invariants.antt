@@ -1,4 +1,4 @@
-use Rattle.std.proofs.Common.{◌≡◌, false, length}
+use Rattle.std.proofs.Common.{◌≡◌, false}
 use Rattle.channel_graph.specs.Ranked.{Widens}
 use Rattle.channel_graph.proofs.circuit.widen.Given as goal
 

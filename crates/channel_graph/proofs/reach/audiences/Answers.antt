@@ -1,4 +1,4 @@
-use Rattle.std.proofs.Common.{◌≡◌, ◌<◌, length, arith, ap, sym, subst}
+use Rattle.std.proofs.Common.{◌<◌, length, arith, ap, sym, subst}
 use Rattle.tower_syntax.specs.View.{handler_of}
 use Rattle.tower_syntax.specs.WellNumbered.{IsNumberedHandler}
 use Rattle.tower_syntax.proofs.Elements.{kept}

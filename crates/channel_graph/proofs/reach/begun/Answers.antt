@@ -1,4 +1,4 @@
-use Rattle.std.proofs.Common.{◌≡◌, ◌∙◌, sym, subst}
+use Rattle.std.proofs.Common.{◌∙◌, sym, subst}
 use Rattle.tower_syntax.specs.Graph.{handler}
 use Rattle.channel_graph.specs.Reaching.{Begins, Follows, begins, IsMarked}
 use Rattle.channel_graph.proofs.Linked.{link_of}

@@ -1,5 +1,5 @@
 use Rattle.std.proofs.Common.{◌≡◌, ◌∙◌, ap, sym}
-use Rattle.tower_syntax.specs.Graph.{same_on, handler}
+use Rattle.tower_syntax.specs.Graph.{same_on}
 use Rattle.channel_graph.specs.Reaching.{is_on}
 use Rattle.channel_graph.proofs.Searched.{first_on_has, first_on_lacks, handler_at}
 use Rattle.channel_graph.proofs.reach.handlers_on.Goals as goal

@@ -1,4 +1,3 @@
-use Rattle.std.proofs.Common.{◌≡◌, ◌∙◌}
 use Rattle.channel_graph.proofs.ReachedList.{found_is, found_reaches}
 use Rattle.channel_graph.proofs.reach.reached.Goals as goal
 

@@ -1,4 +1,4 @@
-use Rattle.std.proofs.Common.{◌≡◌, ◌+◌, ◌∙◌, ℕ, Bool, false, cond, length, map, sum, get_or, arith, ap, sym, subst}
+use Rattle.std.proofs.Common.{◌≡◌, ◌+◌, ◌∙◌, ℕ, false, cond, length, map, sum, get_or, arith, ap, sym}
 use Rattle.std.proofs.lemmas.List.{length-map}
 use Rattle.tower_types.specs.Records.{saturated}
 use Rattle.tower_syntax.specs.View.{handler_of}

@@ -1,4 +1,4 @@
-use Rattle.std.proofs.Common.{◌≡◌, ◌<◌, ◌∙◌, length, map, sum, arith, ap, subst}
+use Rattle.std.proofs.Common.{◌≡◌, ◌<◌, length, arith, ap, subst}
 use Rattle.std.proofs.lemmas.List.{length-map}
 use Rattle.tower_types.specs.Records.{saturated}
 use Rattle.tower_syntax.specs.View.{monitor_of}

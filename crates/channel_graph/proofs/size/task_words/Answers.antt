@@ -1,4 +1,4 @@
-use Rattle.std.proofs.Common.{◌≡◌, ◌∙◌, map, sum, arith, ap}
+use Rattle.std.proofs.Common.{◌∙◌, map, sum, arith, ap}
 use Rattle.tower_types.specs.Records.{saturated}
 use Rattle.tower_syntax.specs.Graph.{handler}
 use Rattle.tower_syntax.specs.Weights.{handler_memory}

@@ -1,5 +1,5 @@
 use Rattle.std.proofs.Common.{◌≡◌, ◌∙◌, map, sum, ap, sym, subst}
-use Rattle.tower_types.specs.Ty.{words, shape_in, table_of}
+use Rattle.tower_types.specs.Ty.{words, table_of}
 use Rattle.tower_types.specs.View.{fields_of}
 use Rattle.tower_types.specs.Records.{saturated}
 use Rattle.tower_syntax.specs.Weights.{field_shapes}

@@ -1,6 +1,5 @@
-use Rattle.std.proofs.Common.{◌≡◌, ◌<◌, List, ℕ, length, slice_set, arith, sym, subst, ap}
+use Rattle.std.proofs.Common.{◌<◌, length, arith}
 use Rattle.tower_syntax.specs.declared.arch.On.TheVariants as on
-use Rattle.channel_graph.specs.Reaching.{Goes}
 use Rattle.channel_graph.proofs.Searched.{audience, audience_at, all_marked, open_goes}
 use Rattle.channel_graph.proofs.reach.Reach.enter.Goals as goal
 

@@ -1,4 +1,4 @@
-use Rattle.std.proofs.Common.{◌≡◌, ◌<◌, length, map, take, get_or, arith, sym, subst, ap}
+use Rattle.std.proofs.Common.{◌≡◌, ◌<◌, length, map, take, arith, sym, subst, ap}
 use Rattle.std.proofs.lemmas.List.{length-map}
 use Rattle.tower_syntax.specs.View.{emitter_of}
 use Rattle.tower_syntax.proofs.Elements.{kept}

@@ -1,6 +1,6 @@
-use Rattle.std.proofs.Common.{◌≡◌, ◌∙◌, length, get_or, sym, subst}
+use Rattle.std.proofs.Common.{◌∙◌, get_or, sym, subst}
 use Rattle.tower_syntax.specs.declared.arch.On.TheVariants as on
-use Rattle.channel_graph.specs.Reaching.{first_on, Follows, begins}
+use Rattle.channel_graph.specs.Reaching.{Follows, begins}
 use Rattle.channel_graph.proofs.Searched.{audience_at, all_marked}
 use Rattle.channel_graph.proofs.reach.Reach.visit_source.Goals as goal
 
