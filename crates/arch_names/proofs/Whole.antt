@@ -48,9 +48,12 @@ module _ (raw : Raw Id) where
   fault_is f (inl h) = inl h
   fault_is f (inr h) = inr (first_at (sites raw) f h)
 
+  pub least_is : (f : NameFault) → first (sites raw) ≡ Some f → Ascends raw → IsFirst (Offences raw) f
+  least_is f h o = record { is_one = first_at (sites raw) f h; least = λ g k. least_at (sites raw) f g k.0 (subst AreAscending (sym (site_places raw)) o) h k.1 k.2 }
+
   first_is : Ascends raw → (f : NameFault) → IsFault (sites raw) f → (f ≡ fault.NoMemory) ⊎ IsFirst (Offences raw) f
   first_is o f (inl h) = inl h
-  first_is o f (inr h) = inr (record { is_one = first_at (sites raw) f h; least = λ g k. least_at (sites raw) f g k.0 (subst AreAscending (sym (site_places raw)) o) h k.1 k.2 })
+  first_is o f (inr h) = inr (least_is f h o)
 
   pub fault_exit : {T : Type 0} (r : Result T NameFault) (f : NameFault) → IsErrAnd r (λ x. x ≡ f) → IsFault (sites raw) f → IfErr r (λ g. (g ≡ fault.NoMemory) ⊎ Offences raw g)
   fault_exit r f h k = exit_by r (λ g. (g ≡ fault.NoMemory) ⊎ Offences raw g) f h (fault_is f k)

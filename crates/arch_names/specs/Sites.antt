@@ -1,5 +1,5 @@
--- The places of a file where names stand, in text order, with what is in scope at each. The names after `get` are not
--- among them.
+-- The places of a file where names stand, in text order, but for the file's own and those after `get`, with what is in
+-- scope at each.
 use Rattle.std.specs.Prelude.{ℕ, ◌+◌, List, [], ◌∷◌, ◌++◌, Option, Some, None}
 use Rattle.std.specs.Option.{option_map, option_or}
 use Rattle.tower_syntax.specs.declared.named.Target.{Target}

@@ -1,7 +1,7 @@
--- The first fault of a list of sites, and what a use refers to, as they are computed.
+-- The first fault of a list of sites, and what a use refers to, as they are computed. They are what the relation says.
 use Rattle.std.specs.Prelude.{◌≡◌, ◌⊎◌, ℕ, nat_eq, nat_lt, if◌then◌else◌, List, [], ◌∷◌, Option, Some, None}
 use Rattle.std.specs.Option.{option_map, option_or, unwrap_or}
-use Rattle.tower_syntax.specs.RawTree.{Id}
+use Rattle.tower_syntax.specs.RawTree.{Id, Raw}
 use Rattle.tower_syntax.specs.declared.named.Target.{Target}
 use Rattle.tower_syntax.specs.declared.named.Target.TheVariants as target
 use Rattle.arch_names.specs.declared.names.Declared.{Declared}
@@ -12,6 +12,10 @@ use Rattle.arch_names.specs.declared.fault.NameFault.{NameFault}
 use Rattle.arch_names.specs.declared.fault.NameFault.TheVariants as fault
 use Rattle.arch_names.specs.Names.{sort_of, serves}
 use Rattle.arch_names.specs.Site.{Site, declares, binds, refers, part_type, picks}
+use Rattle.arch_names.specs.Sites.{sites}
+use Rattle.arch_names.specs.Linked.{linked}
+use Rattle.arch_names.specs.Resolved.{Offences, IsLinked, IsClean, IsFirst}
+use Rattle.arch_names.specs.Written.{Ascends}
 
 -- what a use finds where it wants this sort; a record only where it is declared before the offset
 abbrev pub served : Sort → Option (Declared Thing) → Option Target
@@ -64,3 +68,11 @@ IsMade ss see tree made = (first ss ≡ None) × (see made ≡ tree)
 -- want of memory, or the first fault of the sites
 abbrev pub IsFault : List Site → NameFault → Type 0
 IsFault ss f = (f ≡ fault.NoMemory) ⊎ (first ss ≡ Some f)
+
+-- no fault is computed only where there is no offence, and the links that are computed are then those that are meant
+abbrev pub NoneIsClean : Type 0
+NoneIsClean = (raw : Raw Id) → first (sites raw) ≡ None → IsClean (Offences raw) × IsLinked raw (linked meant raw)
+
+-- the fault that is computed is the offence with the least offset
+abbrev pub SomeIsFirst : Type 0
+SomeIsFirst = (raw : Raw Id) (f : NameFault) → first (sites raw) ≡ Some f → Ascends raw → IsFirst (Offences raw) f

@@ -147,6 +147,38 @@ numbers = file (name 7 (codes "t")) (init 9 (name 15 (codes "i")) 1 ∷ fields 2
 abbrev pub numbers_linked : Raw Link
 numbers_linked = file (name 7 (codes "t")) (init 9 (name 15 (codes "i")) 1 ∷ fields 20 (name 28 (codes "r")) (field 30 (name 37 (codes "f")) (word 39 U8) ∷ []) ∷ init 44 (name 50 (codes "j")) 2 ∷ channel 55 (name 64 (codes "c")) (rec (link 66 (target.Record 0))) ∷ monitor 69 (name 78 (codes "m")) (state 80 (name 87 (codes "x")) (word 89 U8) ∷ handler 93 (name 102 (codes "h")) (link 104 (target.Source 1)) (emitter 106 (name 115 (codes "e")) (link 117 (target.Channel 0)) 1 ∷ emitter 122 (name 131 (codes "g")) (link 133 (target.Channel 0)) 1 ∷ callback 138 (name 148 (codes "v")) (stmts_of (loop 150 (name 155 (codes "k")) 2 (stmts_of (bind 159 (name 164 (codes "a")) (read (root (link 166 (target.State 0)))) ∷ [])) ∷ branch 170 (truth 174 true) 179 (stmts_of (bind 185 (name 190 (codes "a")) (read (root (link 192 (target.Param)))) ∷ [])) 196 (stmts_of (local 202 (name 209 (codes "b")) (rec (link 211 (target.Record 0))) ∷ [])) ∷ bind 216 (name 221 (codes "d")) (read (root (link 223 (target.State 0)))) ∷ set 226 (root (link 231 (target.State 1))) (read (root (link 233 (target.Binder 4)))) ∷ emit 236 (link 242 (target.Emitter 1)) (read (root (link 244 (target.State 1)))) ∷ [])) ∷ []) ∷ state 249 (name 256 (codes "y")) (word 258 U8) ∷ []) ∷ [])
 
+-- (tower t (channel c u8) (init i 1) (monitor m (handler h i (emitter e c 1) (emitter e c 2))))
+abbrev pub two_emitters : Raw Id
+two_emitters = file (name 7 (codes "t")) (channel 9 (name 18 (codes "c")) (word 20 U8) ∷ init 24 (name 30 (codes "i")) 1 ∷ monitor 35 (name 44 (codes "m")) (handler 46 (name 55 (codes "h")) (name 57 (codes "i")) (emitter 59 (name 68 (codes "e")) (name 70 (codes "c")) 1 ∷ emitter 75 (name 84 (codes "e")) (name 86 (codes "c")) 2 ∷ []) ∷ []) ∷ [])
+
+-- (tower t (monitor m (state x u8) (state x u8)))
+abbrev pub two_states : Raw Id
+two_states = file (name 7 (codes "t")) (monitor 9 (name 18 (codes "m")) (state 20 (name 27 (codes "x")) (word 29 U8) ∷ state 33 (name 40 (codes "x")) (word 42 U8) ∷ []) ∷ [])
+
+-- (tower t (init i 1) (monitor m (handler h i (callback v (let a true) (local a u8)))))
+abbrev pub local_of_a_let : Raw Id
+local_of_a_let = file (name 7 (codes "t")) (init 9 (name 15 (codes "i")) 1 ∷ monitor 20 (name 29 (codes "m")) (handler 31 (name 40 (codes "h")) (name 42 (codes "i")) (callback 44 (name 54 (codes "v")) (stmts_of (bind 56 (name 61 (codes "a")) (truth 63 true) ∷ local 69 (name 76 (codes "a")) (word 78 U8) ∷ [])) ∷ []) ∷ []) ∷ [])
+
+-- (tower t (init i 1) (monitor m (handler h i (callback v (for k 3 (let k true))))))
+abbrev pub let_in_its_for : Raw Id
+let_in_its_for = file (name 7 (codes "t")) (init 9 (name 15 (codes "i")) 1 ∷ monitor 20 (name 29 (codes "m")) (handler 31 (name 40 (codes "h")) (name 42 (codes "i")) (callback 44 (name 54 (codes "v")) (stmts_of (loop 56 (name 61 (codes "k")) 3 (stmts_of (bind 65 (name 70 (codes "k")) (truth 72 true) ∷ [])) ∷ [])) ∷ []) ∷ []) ∷ [])
+
+-- (tower t (output o c) (init i 1) (init i 2))
+abbrev pub unknown_before_twice : Raw Id
+unknown_before_twice = file (name 7 (codes "t")) (output 9 (name 17 (codes "o")) (name 19 (codes "c")) ∷ init 22 (name 28 (codes "i")) 1 ∷ init 33 (name 39 (codes "i")) 2 ∷ [])
+
+-- (tower t (init i 1) (output o i) (init i 2))
+abbrev pub kind_before_twice : Raw Id
+kind_before_twice = file (name 7 (codes "t")) (init 9 (name 15 (codes "i")) 1 ∷ output 20 (name 28 (codes "o")) (name 30 (codes "i")) ∷ init 33 (name 39 (codes "i")) 2 ∷ [])
+
+-- (tower t (record r (field f u8)) (record s (field f r)) (channel c u8) (channel d s) (monitor m (state x u8) (handler h c (emitter e c 1) (emitter g d 1) (callback v (for k 2 (let a x) (set x a)) (emit g v)) (callback v (let a x) (set x a))) (handler k d (emitter e d 1) (callback v (emit e v)))) (monitor n (state y u8) (state x u8) (handler l c (callback v (copy x y)))))
+abbrev pub numbers_anew : Raw Id
+numbers_anew = file (name 7 (codes "t")) (fields 9 (name 17 (codes "r")) (field 19 (name 26 (codes "f")) (word 28 U8) ∷ []) ∷ fields 33 (name 41 (codes "s")) (field 43 (name 50 (codes "f")) (rec (name 52 (codes "r"))) ∷ []) ∷ channel 56 (name 65 (codes "c")) (word 67 U8) ∷ channel 71 (name 80 (codes "d")) (rec (name 82 (codes "s"))) ∷ monitor 85 (name 94 (codes "m")) (state 96 (name 103 (codes "x")) (word 105 U8) ∷ handler 109 (name 118 (codes "h")) (name 120 (codes "c")) (emitter 122 (name 131 (codes "e")) (name 133 (codes "c")) 1 ∷ emitter 138 (name 147 (codes "g")) (name 149 (codes "d")) 1 ∷ callback 154 (name 164 (codes "v")) (stmts_of (loop 166 (name 171 (codes "k")) 2 (stmts_of (bind 175 (name 180 (codes "a")) (read (root (name 182 (codes "x")))) ∷ set 185 (root (name 190 (codes "x"))) (read (root (name 192 (codes "a")))) ∷ [])) ∷ emit 196 (name 202 (codes "g")) (read (root (name 204 (codes "v")))) ∷ [])) ∷ callback 208 (name 218 (codes "v")) (stmts_of (bind 220 (name 225 (codes "a")) (read (root (name 227 (codes "x")))) ∷ set 230 (root (name 235 (codes "x"))) (read (root (name 237 (codes "a")))) ∷ [])) ∷ []) ∷ handler 242 (name 251 (codes "k")) (name 253 (codes "d")) (emitter 255 (name 264 (codes "e")) (name 266 (codes "d")) 1 ∷ callback 271 (name 281 (codes "v")) (stmts_of (emit 283 (name 289 (codes "e")) (read (root (name 291 (codes "v")))) ∷ [])) ∷ []) ∷ []) ∷ monitor 297 (name 306 (codes "n")) (state 308 (name 315 (codes "y")) (word 317 U8) ∷ state 321 (name 328 (codes "x")) (word 330 U8) ∷ handler 334 (name 343 (codes "l")) (name 345 (codes "c")) (callback 347 (name 357 (codes "v")) (stmts_of (copy 359 (root (name 365 (codes "x"))) (root (name 367 (codes "y"))) ∷ [])) ∷ []) ∷ []) ∷ [])
+
+-- and with its links: each record has its fields, each monitor its states, each handler its emitters, each callback its names; each list begins at 0
+abbrev pub numbers_anew_linked : Raw Link
+numbers_anew_linked = file (name 7 (codes "t")) (fields 9 (name 17 (codes "r")) (field 19 (name 26 (codes "f")) (word 28 U8) ∷ []) ∷ fields 33 (name 41 (codes "s")) (field 43 (name 50 (codes "f")) (rec (link 52 (target.Record 0))) ∷ []) ∷ channel 56 (name 65 (codes "c")) (word 67 U8) ∷ channel 71 (name 80 (codes "d")) (rec (link 82 (target.Record 1))) ∷ monitor 85 (name 94 (codes "m")) (state 96 (name 103 (codes "x")) (word 105 U8) ∷ handler 109 (name 118 (codes "h")) (link 120 (target.Channel 0)) (emitter 122 (name 131 (codes "e")) (link 133 (target.Channel 0)) 1 ∷ emitter 138 (name 147 (codes "g")) (link 149 (target.Channel 1)) 1 ∷ callback 154 (name 164 (codes "v")) (stmts_of (loop 166 (name 171 (codes "k")) 2 (stmts_of (bind 175 (name 180 (codes "a")) (read (root (link 182 (target.State 0)))) ∷ set 185 (root (link 190 (target.State 0))) (read (root (link 192 (target.Binder 1)))) ∷ [])) ∷ emit 196 (link 202 (target.Emitter 1)) (read (root (link 204 (target.Param)))) ∷ [])) ∷ callback 208 (name 218 (codes "v")) (stmts_of (bind 220 (name 225 (codes "a")) (read (root (link 227 (target.State 0)))) ∷ set 230 (root (link 235 (target.State 0))) (read (root (link 237 (target.Binder 0)))) ∷ [])) ∷ []) ∷ handler 242 (name 251 (codes "k")) (link 253 (target.Channel 1)) (emitter 255 (name 264 (codes "e")) (link 266 (target.Channel 1)) 1 ∷ callback 271 (name 281 (codes "v")) (stmts_of (emit 283 (link 289 (target.Emitter 0)) (read (root (link 291 (target.Param)))) ∷ [])) ∷ []) ∷ []) ∷ monitor 297 (name 306 (codes "n")) (state 308 (name 315 (codes "y")) (word 317 U8) ∷ state 321 (name 328 (codes "x")) (word 330 U8) ∷ handler 334 (name 343 (codes "l")) (link 345 (target.Channel 0)) (callback 347 (name 357 (codes "v")) (stmts_of (copy 359 (root (link 365 (target.State 1))) (root (link 367 (target.State 0))) ∷ [])) ∷ []) ∷ []) ∷ [])
+
 abbrev pub WorkedNames : Type 0
 WorkedNames =
     (fault_of two_sorts ≡ Some (Twice 34 17)) ×
@@ -177,4 +209,12 @@ WorkedNames =
     (fault_of emit_of_a_channel ≡ Some (Unknown 77)) ×
     (fault_of get_is_passed_over ≡ Some (Unknown 89)) ×
     (fault_of numbers ≡ None) ×
-    (linked meant numbers ≡ numbers_linked)
+    (linked meant numbers ≡ numbers_linked) ×
+    (fault_of two_emitters ≡ Some (Twice 84 68)) ×
+    (fault_of two_states ≡ Some (Twice 40 27)) ×
+    (fault_of local_of_a_let ≡ Some (Twice 76 61)) ×
+    (fault_of let_in_its_for ≡ Some (Twice 70 61)) ×
+    (fault_of unknown_before_twice ≡ Some (Unknown 19)) ×
+    (fault_of kind_before_twice ≡ Some (Kind 30 Channel Source)) ×
+    (fault_of numbers_anew ≡ None) ×
+    (linked meant numbers_anew ≡ numbers_anew_linked)

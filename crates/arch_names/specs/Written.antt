@@ -1,5 +1,5 @@
--- Where the names of a file stand: the offset of each name that is declared or used, in text order, but for those
--- after `get`.
+-- Where the names of a file stand: the offset of each name that is declared or used, in text order, but for the file's
+-- own and those after `get`.
 use Rattle.std.specs.Prelude.{ℕ, ◌<◌, List, [], ◌∷◌, ◌++◌}
 use Rattle.tower_syntax.specs.RawTree.{Id, RawType, word, rec, array, RawPlace, root, get, index, RawExpr, truth, read, lit, un, bin, choose, cast, RawStmt, bind, local, set, copy, branch, loop, emit, RawStmts, no_stmts, stmt, RawField, RawHpart, emitter, callback, RawPart, state, handler, RawItem, fields, init, period, signal, channel, output, monitor, Raw}
 use Rattle.arch_names.specs.Sets.{each}
@@ -70,6 +70,6 @@ abbrev pub AreAscending : List ℕ → Type 0
 AreAscending [] = Unit {0}
 AreAscending (n ∷ ns) = IsBelow n ns × AreAscending ns
 
--- the names stand in text order, no two at one place, as in every file that is read from a text
+-- the names stand in text order, no two at one place, as they do in a text
 abbrev pub Ascends : Raw Id → Type 0
 Ascends raw = AreAscending (written raw)

@@ -1,56 +1,25 @@
-//! Small files with the offsets of their texts.
+//! Files with the offsets of their texts.
+
+mod files;
+mod links;
 
 use crate::{NameFault, Sort, resolve};
-use sqlite_items::Items;
-use std::alloc::Global;
+use files::{numbers_anew, output_of, two_sorts};
+use links::links_of;
 use std::test::Fail;
-use tower_syntax::{Id, Link, Named, NamedItem, Raw, RawItem, RawType, Target};
-use tower_types::{Name, NoMemory, Scalar};
+use tower_syntax::{Link, Named, NamedItem, Target};
 
-fn id(alloc: Global, at: u32, name: &[u8]) -> Result<Id, NoMemory> {
-    let name = Name::new(alloc, &name[..name.len().min(64)])?;
-    Ok(Id { at, name })
-}
-
-/// `(tower t (channel NAME u8) (output o USE))`, where both have one letter.
-fn output_of(alloc: Global, channel: &[u8], used: &[u8]) -> Result<Raw, NoMemory> {
-    let message = RawType::Word {
-        at: 20,
-        scalar: Scalar::U8,
-    };
-    let mut items = Items::new(alloc);
-    items.push(RawItem::Channel {
-        at: 9,
-        name: id(alloc, 18, channel)?,
-        message,
-    })?;
-    items.push(RawItem::Output {
-        at: 24,
-        name: id(alloc, 32, b"o")?,
-        channel: id(alloc, 34, used)?,
-    })?;
-    Ok(Raw {
-        at: 0,
-        version: 1,
-        name: id(alloc, 7, b"t")?,
-        items,
-    })
-}
-
-/// The fault, or none where the second item is an output with this link.
-fn told(answer: Result<Named, NameFault>, wanted: Link) -> Option<NameFault> {
-    let named = match answer {
-        Ok(named) => named,
-        Err(fault) => return Some(fault),
-    };
+/// The link of the second item, where it is an output, or the fault.
+fn told(answer: Result<Named, NameFault>) -> Result<Option<Link>, NameFault> {
+    let named = answer?;
     match named.items.get(1) {
-        Some(NamedItem::Output { channel, .. }) if *channel == wanted => None,
-        _ => Some(NameFault::NoMemory),
+        Some(NamedItem::Output { channel, .. }) => Ok(Some(*channel)),
+        _ => Ok(None),
     }
 }
 
 #[test]
-fn resolves_small_files(rt: HostRuntime) -> Result<(), Fail> {
+fn resolves_outputs(rt: HostRuntime) -> Result<(), Fail> {
     let link = Link {
         at: 34,
         target: Target::Channel(0),
@@ -60,14 +29,59 @@ fn resolves_small_files(rt: HostRuntime) -> Result<(), Fail> {
         want: Sort::Channel,
         found: Sort::Output,
     };
-    for (channel, used, fault) in [
-        (b"c", b"c", None),
-        (b"c", b"d", Some(NameFault::Unknown { at: 34 })),
-        (b"c", b"o", Some(kind)),
-        (b"o", b"o", Some(NameFault::Twice { at: 32, first: 18 })),
+    for (channel, used, answer) in [
+        (b'c', b'c', Ok(Some(link))),
+        (b'c', b'd', Err(NameFault::Unknown { at: 34 })),
+        (b'c', b'o', Err(kind)),
+        (b'o', b'o', Err(NameFault::Twice { at: 32, first: 18 })),
     ] {
         let raw = output_of(rt.alloc(), channel, used)?;
-        assert_eq!(rt; told(resolve(rt.alloc(), &raw), link), fault);
+        assert_eq!(rt; told(resolve(rt.alloc(), &raw)), answer);
     }
+    Ok(())
+}
+
+#[test]
+fn tells_the_first_fault(rt: HostRuntime) -> Result<(), Fail> {
+    let raw = two_sorts(rt.alloc())?;
+    let fault = NameFault::Twice { at: 34, first: 17 };
+    assert_eq!(rt; told(resolve(rt.alloc(), &raw)), Err(fault));
+    Ok(())
+}
+
+/// What the uses of a file are linked to, in text order.
+const NUMBERS_ANEW: [(u32, Target); 20] = [
+    (52, Target::Record(0)),
+    (82, Target::Record(1)),
+    (120, Target::Channel(0)),
+    (133, Target::Channel(0)),
+    (149, Target::Channel(1)),
+    (182, Target::State(0)),
+    (190, Target::State(0)),
+    (192, Target::Binder(1)),
+    (202, Target::Emitter(1)),
+    (204, Target::Param),
+    (227, Target::State(0)),
+    (235, Target::State(0)),
+    (237, Target::Binder(0)),
+    (253, Target::Channel(1)),
+    (266, Target::Channel(1)),
+    (289, Target::Emitter(0)),
+    (291, Target::Param),
+    (345, Target::Channel(0)),
+    (365, Target::State(1)),
+    (367, Target::State(0)),
+];
+
+#[test]
+fn numbers_begin_anew(rt: HostRuntime) -> Result<(), Fail> {
+    let raw = numbers_anew(rt.alloc())?;
+    let named = resolve(rt.alloc(), &raw)?;
+    let links = links_of(rt.alloc(), &named)?;
+    let mut found = links.as_slice().iter();
+    for (at, target) in NUMBERS_ANEW {
+        assert_eq!(rt; found.next().copied(), Some(Link { at, target }));
+    }
+    assert!(rt; found.next().is_none());
     Ok(())
 }
