@@ -9,3 +9,5 @@ pub mod Order
 pub mod Verdicts
 pub mod Standing
 pub mod Rows
+pub mod Lines
+pub mod Wordy

@@ -1,9 +1,13 @@
 -- The laws of the definitions.
-use Rattle.std.specs.Prelude.{◌≡◌, ◌↔◌, ℕ, List, Ok, Err}
+use Rattle.std.specs.Prelude.{◌≡◌, ◌↔◌, ◌≤◌, ℕ, List, length, Ok, Err}
 use Rattle.tower_syntax.specs.RawTree.{Id, Raw}
+use Rattle.tower_syntax.specs.Form.{text}
+use Rattle.tower_syntax.specs.Printed.{raw_form}
+use Rattle.tower_syntax.specs.Printable.{IsPrintable}
 use Rattle.tower_reader.specs.declared.fault.ReadFault.{ReadFault}
-use Rattle.tower_reader.specs.Spelled.{Spells}
+use Rattle.tower_reader.specs.Spelled.{Spells, byte_limit}
 use Rattle.tower_reader.specs.Faults.{IsFault}
+use Rattle.tower_reader.specs.Alike.{IsAlike}
 use Rattle.tower_reader.specs.Verdict.{verdict}
 
 -- a text spells a tree exactly where the verdict is this tree
@@ -13,3 +17,7 @@ VerdictSpells = (bs : List ℕ) (r : Raw Id) → (verdict bs ≡ Ok r) ↔ Spell
 -- and has a fault exactly where the verdict is this fault
 abbrev pub VerdictFault : Type 0
 VerdictFault = (bs : List ℕ) (f : ReadFault) → (verdict bs ≡ Err f) ↔ IsFault bs f
+
+-- the line that a tree is printed as spells a tree again, which is the printed one, offsets apart
+abbrev pub PrintReadsBack : Type 0
+PrintReadsBack = (r : Raw Id) → IsPrintable r → length (text (raw_form r)) ≤ byte_limit → (s : Raw Id) × Spells (text (raw_form r)) s × IsAlike r s

@@ -8,5 +8,6 @@ pub mod Machine
 pub mod View
 pub mod Verdict
 pub mod Standing
+pub mod Alike
 pub mod Laws
 pub mod Worked

@@ -1,11 +1,16 @@
 //! The laws of the definitions. Each is the contract of a function that does nothing.
-ghost use Rattle.tower_reader.specs.Laws.{VerdictSpells, VerdictFault};
+ghost use Rattle.tower_reader.specs.Laws.{VerdictSpells, VerdictFault, PrintReadsBack};
 ghost use Rattle.tower_reader.specs.Worked.{WorkedTrees, WorkedTokens, WorkedForms, WorkedNumbers};
 
 /// `verdict` computes the tree of a text, or its fault. So a text spells one tree or has one fault, and never both.
 pub fn verdict_law()
     ensures spells { VerdictSpells }
     ensures fault { VerdictFault }
+{}
+
+/// What is printed of a tree reads back: where the line is within the byte limit, it spells the same tree, offsets apart.
+pub fn print_reads_back()
+    ensures { PrintReadsBack }
 {}
 
 /// Texts with their trees and faults.
