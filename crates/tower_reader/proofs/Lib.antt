@@ -11,3 +11,4 @@ pub mod Standing
 pub mod Rows
 pub mod Lines
 pub mod Wordy
+pub mod RowsBack
