@@ -12,3 +12,5 @@ pub mod Rows
 pub mod Lines
 pub mod Wordy
 pub mod RowsBack
+pub mod FormsBack
+pub mod ReadsBack
