@@ -12,5 +12,7 @@ pub mod Rows
 pub mod Lines
 pub mod Wordy
 pub mod RowsBack
-pub mod FormsBack
+pub mod ExprsBack
+pub mod StmtsBack
+pub mod ItemsBack
 pub mod ReadsBack

@@ -8,7 +8,7 @@ use Rattle.tower_reader.specs.Spelled.{Reads, Spells}
 use Rattle.tower_reader.specs.Laws.{PrintReadsBack}
 use Rattle.tower_reader.proofs.Lines.{tree_at, form_spells, form_faultless}
 use Rattle.tower_reader.proofs.Wordy.{read_wordy}
-use Rattle.tower_reader.proofs.FormsBack.{raw_backs}
+use Rattle.tower_reader.proofs.ItemsBack.{raw_backs}
 
 pub reads_back : PrintReadsBack
 reads_back r h l =

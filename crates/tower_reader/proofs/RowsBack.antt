@@ -2,12 +2,13 @@
 use Rattle.std.proofs.Common.{◌≡◌, ℕ, zero, suc, ◌+◌, ◌≤◌, length, List, [], ◌∷◌, Bool, true, false, cond, ◌&&◌, ◌||◌, nat_le, Option, Some, None, map, refl, ap, ◌∙◌, subst, sym, arith}
 use Rattle.std.specs.List.{All, filter_map, cons_option}
 use Rattle.std.proofs.lemmas.Bool.{le-leb}
+use Rattle.std.proofs.lemmas.List.{get_or_past}
 use Rattle.std.proofs.lemmas.List.Elements.{All-head, All-tail}
 use Rattle.tower_sexp.specs.Trees.{Tree, atom as leaf, Trees, no_trees, tree}
 use Rattle.tower_syntax.specs.Form.{Form, Forms, no_forms, form, forms, row, text}
 use Rattle.tower_reader.specs.declared.table.Place.{Place}
 use Rattle.tower_reader.specs.declared.table.Row.{Row}
-use Rattle.tower_reader.specs.Table.{row_of, place_at}
+use Rattle.tower_reader.specs.Table.{rule, row_of, or_nowhere, place_at, has_more, count_fits}
 use Rattle.tower_reader.specs.Part.{Part, build}
 use Rattle.tower_reader.specs.Spelled.{count, fitting, Reads, has_row, ReadsAll, no_more, one_more}
 use Rattle.tower_reader.proofs.Lines.{tree_at, trees_spaced}
@@ -81,49 +82,69 @@ four p r w {f = f} {g = g} {h = h} e x y z u made = λ n.
       alike = made n a.part b.part c.part d.part a.alike b.alike c.alike d.alike;
     }
 
--- Rows with any number of more children, behind none, one or two.
+-- Rows with any number of more children.
 
-pub more : (p : Place) (r : Row) (w : List ℕ) {fs : List Form} {B : List Part → Type 0} {C : Part → Type 0} → ((m : ℕ) → fitting m (row_of p w) ≡ Some r) → BacksAll r 0 fs B → ((n : ℕ) (bs : List Part) → B bs → C (build r n bs)) → Backs p (row w fs) C
-more p r w {fs = fs} e xs made = λ n.
+-- a row with at least so many children, where those behind them stand at one place
+pub record HasMore (r : Row) (least : ℕ) (p : Place) : Type 0 where
+  pub places : length (rule r).places ≡ least
+  pub more : (rule r).more ≡ Some p
+
+enough : (k m : ℕ) (a b c : Bool) → nat_le k m ≡ a → k ≤ m → c ≡ true → a && (b || c) ≡ true
+enough k m true true c e h g = refl
+enough k m true false c e h g = g
+enough k m false b c e h g = let t : nat_le k m ≡ true = le-leb k m h in cc
+
+fits_more : (r : Row) (least m : ℕ) (p : Place) → HasMore r least p → least ≤ m → fitting m (Some r) ≡ Some r
+fits_more r least m p h l =
+    let k : length (rule r).places ≤ m = omega (arith, h.places) in
+    let e : count_fits r m ≡ true = enough (length (rule r).places) m _ (nat_le m (length (rule r).places)) _ refl k (ap has_more h.more) in
+    ap (λ b. cond b (Some r) None) e
+
+fits : (p : Place) (w : List ℕ) (r : Row) (least m : ℕ) (q : Place) → row_of p w ≡ Some r → HasMore r least q → least ≤ m → fitting m (row_of p w) ≡ Some r
+fits p w r least m q e h l = ap (fitting m) e ∙ fits_more r least m q h l
+
+-- from a child on, all stand at one place
+abbrev pub IsPlacedFrom : ℕ → Row → Place → Type 0
+IsPlacedFrom i r p = (j : ℕ) → i ≤ j → place_at r j ≡ p
+
+pub placed : {r : Row} {least : ℕ} {p : Place} → HasMore r least p → IsPlacedFrom least r p
+placed {r = r} h j l = get_or_past (rule r).places j (or_nowhere (rule r).more) (omega (arith, h.places)) ∙ ap or_nowhere h.more
+
+pub more : (p : Place) (r : Row) (w : List ℕ) {q : Place} {fs : List Form} {B : List Part → Type 0} {C : Part → Type 0} → row_of p w ≡ Some r → HasMore r 0 q → BacksAll r 0 fs B → ((n : ℕ) (bs : List Part) → B bs → C (build r n bs)) → Backs p (row w fs) C
+more p r w {q = q} {fs = fs} e h xs made = λ n.
     let bs = xs (n + 1 + length w) in
+    let ts : Trees = trees_spaced (n + 1 + length w) (forms fs) in
     record {
       part = build r n bs.parts;
-      reads = has_row p n (leaf (n + 1) w) (trees_spaced (n + 1 + length w) (forms fs)) r bs.parts (e _) bs.reads;
+      reads = has_row p n (leaf (n + 1) w) ts r bs.parts (fits p w r 0 (count ts) q e h (omega arith)) bs.reads;
       alike = made n bs.parts bs.alike;
     }
 
-pub one_and_more : (p : Place) (r : Row) (w : List ℕ) {f : Form} {fs : List Form} {A C : Part → Type 0} {B : List Part → Type 0} → ((m : ℕ) → fitting (suc m) (row_of p w) ≡ Some r) → Backs (place_at r 0) f A → BacksAll r 1 fs B → ((n : ℕ) (a : Part) (bs : List Part) → A a → B bs → C (build r n (a ∷ bs))) → Backs p (row w (f ∷ fs)) C
-one_and_more p r w {f = f} {fs = fs} e x xs made = λ n.
+pub one_and_more : (p : Place) (r : Row) (w : List ℕ) {q : Place} {f : Form} {fs : List Form} {A C : Part → Type 0} {B : List Part → Type 0} → row_of p w ≡ Some r → HasMore r 1 q → Backs (place_at r 0) f A → BacksAll r 1 fs B → ((n : ℕ) (a : Part) (bs : List Part) → A a → B bs → C (build r n (a ∷ bs))) → Backs p (row w (f ∷ fs)) C
+one_and_more p r w {q = q} {f = f} {fs = fs} e h x xs made = λ n.
     let k : ℕ = n + 1 + length w + 1 in
     let a = x k in
     let bs = xs (k + length (text f)) in
+    let m : ℕ = count (trees_spaced (k + length (text f)) (forms fs)) in
     record {
       part = build r n (a.part ∷ bs.parts);
-      reads = has_row p n (leaf (n + 1) w) _ r (a.part ∷ bs.parts) (e (count (trees_spaced (k + length (text f)) (forms fs)))) (one_more r 0 _ _ a.part _ a.reads bs.reads);
+      reads = has_row p n (leaf (n + 1) w) _ r (a.part ∷ bs.parts) (fits p w r 1 (suc m) q e h (omega arith)) (one_more r 0 _ _ a.part _ a.reads bs.reads);
       alike = made n a.part bs.parts a.alike bs.alike;
     }
 
-pub two_and_more : (p : Place) (r : Row) (w : List ℕ) {f g : Form} {fs : List Form} {A B D : Part → Type 0} {C : List Part → Type 0} → ((m : ℕ) → fitting (suc (suc m)) (row_of p w) ≡ Some r) → Backs (place_at r 0) f A → Backs (place_at r 1) g B → BacksAll r 2 fs C → ((n : ℕ) (a b : Part) (cs : List Part) → A a → B b → C cs → D (build r n (a ∷ b ∷ cs))) → Backs p (row w (f ∷ g ∷ fs)) D
-two_and_more p r w {f = f} {g = g} {fs = fs} e x y xs made = λ n.
+pub two_and_more : (p : Place) (r : Row) (w : List ℕ) {q : Place} {f g : Form} {fs : List Form} {A B D : Part → Type 0} {C : List Part → Type 0} → row_of p w ≡ Some r → HasMore r 2 q → Backs (place_at r 0) f A → Backs (place_at r 1) g B → BacksAll r 2 fs C → ((n : ℕ) (a b : Part) (cs : List Part) → A a → B b → C cs → D (build r n (a ∷ b ∷ cs))) → Backs p (row w (f ∷ g ∷ fs)) D
+two_and_more p r w {q = q} {f = f} {g = g} {fs = fs} e h x y xs made = λ n.
     let k : ℕ = n + 1 + length w + 1 in
     let l : ℕ = k + length (text f) + 1 in
     let a = x k in
     let b = y l in
     let cs = xs (l + length (text g)) in
+    let m : ℕ = count (trees_spaced (l + length (text g)) (forms fs)) in
     record {
       part = build r n (a.part ∷ b.part ∷ cs.parts);
-      reads = has_row p n (leaf (n + 1) w) _ r (a.part ∷ b.part ∷ cs.parts) (e (count (trees_spaced (l + length (text g)) (forms fs)))) (one_more r 0 _ _ a.part _ a.reads (one_more r 1 _ _ b.part _ b.reads cs.reads));
+      reads = has_row p n (leaf (n + 1) w) _ r (a.part ∷ b.part ∷ cs.parts) (fits p w r 2 (suc (suc m)) q e h (omega arith)) (one_more r 0 _ _ a.part _ a.reads (one_more r 1 _ _ b.part _ b.reads cs.reads));
       alike = made n a.part b.part cs.parts a.alike b.alike cs.alike;
     }
-
--- that so many children fit a row with any number of more
-pub enough : (k m : ℕ) → k ≤ m → nat_le k m && (nat_le m k || true) ≡ true
-enough k m h = by_test (nat_le k m) (nat_le m k) (le-leb k m h)
-  where
-    by_test : (a b : Bool) → a ≡ true → a && (b || true) ≡ true
-    by_test true true e = refl
-    by_test true false e = refl
-    by_test false b e = cc
 
 -- Children that are one list.
 
@@ -139,10 +160,6 @@ child r i p {f = f} {fs = fs} e x xs made = λ n.
       reads = one_more r i _ _ a.part bs.parts (subst (λ p. Reads p (tree_at (n + 1) f) a.part) (sym e) a.reads) bs.reads;
       alike = made a.part bs.parts a.alike bs.alike;
     }
-
--- from a child on, all stand at one place
-abbrev pub IsPlacedFrom : ℕ → Row → Place → Type 0
-IsPlacedFrom i r p = (j : ℕ) → i ≤ j → place_at r j ≡ p
 
 abbrev pub map_option : {X : Type 0} → (X → X) → Option X → Option X
 map_option f None = None
