@@ -16,3 +16,4 @@ pub mod ExprsBack
 pub mod StmtsBack
 pub mod ItemsBack
 pub mod ReadsBack
+pub mod SameLine

@@ -21,3 +21,11 @@ VerdictFault = (bs : List ℕ) (f : ReadFault) → (verdict bs ≡ Err f) ↔ Is
 -- the line that a tree is printed as spells a tree again, which is the printed one, offsets apart
 abbrev pub PrintReadsBack : Type 0
 PrintReadsBack = (r : Raw Id) → IsPrintable r → length (text (raw_form r)) ≤ byte_limit → (s : Raw Id) × Spells (text (raw_form r)) s × IsAlike r s
+
+-- trees that are alike are printed as the same line
+abbrev pub AlikePrintSame : Type 0
+AlikePrintSame = (r s : Raw Id) → IsAlike r s → text (raw_form r) ≡ text (raw_form s)
+
+-- and those that are printed as the same line are alike
+abbrev pub SamePrintAlike : Type 0
+SamePrintAlike = (r s : Raw Id) → IsPrintable r → IsPrintable s → length (text (raw_form r)) ≤ byte_limit → text (raw_form r) ≡ text (raw_form s) → IsAlike r s

@@ -1,5 +1,5 @@
 //! The laws of the definitions. Each is the contract of a function that does nothing.
-ghost use Rattle.tower_reader.specs.Laws.{VerdictSpells, VerdictFault, PrintReadsBack};
+ghost use Rattle.tower_reader.specs.Laws.{VerdictSpells, VerdictFault, PrintReadsBack, AlikePrintSame, SamePrintAlike};
 ghost use Rattle.tower_reader.specs.Worked.{WorkedTrees, WorkedTokens, WorkedForms, WorkedNumbers};
 
 /// `verdict` computes the tree of a text, or its fault. So a text spells one tree or has one fault, and never both.
@@ -11,6 +11,12 @@ pub fn verdict_law()
 /// What is printed of a tree reads back: where the line is within the byte limit, it spells the same tree, offsets apart.
 pub fn print_reads_back()
     ensures { PrintReadsBack }
+{}
+
+/// Two trees are equal, offsets apart, exactly where they are printed as the same line.
+pub fn alike_law()
+    ensures same_line { AlikePrintSame }
+    ensures alike { SamePrintAlike }
 {}
 
 /// Texts with their trees and faults.
