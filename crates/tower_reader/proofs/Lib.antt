@@ -17,3 +17,4 @@ pub mod StmtsBack
 pub mod ItemsBack
 pub mod ReadsBack
 pub mod SameLine
+pub mod PrintedRows

@@ -11,3 +11,4 @@ pub mod Standing
 pub mod Alike
 pub mod Laws
 pub mod Worked
+pub mod WorkedPrinted

@@ -1,5 +1,6 @@
 //! The laws of the definitions. Each is the contract of a function that does nothing.
 ghost use Rattle.tower_reader.specs.Laws.{VerdictSpells, VerdictFault, PrintReadsBack, AlikePrintSame, SamePrintAlike};
+ghost use Rattle.tower_reader.specs.WorkedPrinted.{WorkedPrinted};
 ghost use Rattle.tower_reader.specs.Worked.{WorkedTrees, WorkedTokens, WorkedForms, WorkedNumbers};
 
 /// `verdict` computes the tree of a text, or its fault. So a text spells one tree or has one fault, and never both.
@@ -25,4 +26,9 @@ pub fn worked_texts()
     ensures tokens { WorkedTokens }
     ensures forms { WorkedForms }
     ensures numbers { WorkedNumbers }
+{}
+
+/// A printed file read again, and files that are not alike.
+pub fn worked_printed()
+    ensures { WorkedPrinted }
 {}
