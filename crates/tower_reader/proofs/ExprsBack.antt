@@ -1,9 +1,6 @@
 -- Printed atoms, types, places and expressions read back.
-use Rattle.std.proofs.Common.{◌≡◌, ◌≢◌, ◌⊎◌, inl, inr, ℕ, zero, suc, ◌+◌, ◌≤◌, ◌<◌, min, ℤ, pos, length, List, [], ◌∷◌, ◌++◌, Bool, true, false, cond, Option, Some, None, map, refl, ap, ◌∙◌, subst, sym, arith, decimal}
+use Rattle.std.proofs.Common.{◌≡◌, ℕ, ℤ, List, [], ◌∷◌, Some, refl, ap, decimal}
 use Rattle.std.specs.Prelude.{codes}
-use Rattle.std.specs.List.{All, filter_map, cons_option}
-use Rattle.std.proofs.lemmas.List.{get_or_past}
-use Rattle.std.proofs.lemmas.List.Elements.{All-head, All-tail}
 use Rattle.tower_types.specs.declared.scalar.Scalar.{Scalar}
 use Rattle.tower_types.specs.declared.scalar.Scalar.TheVariants as scalar
 use Rattle.tower_types.specs.declared.scalar.BinOp.{BinOp}
@@ -11,29 +8,24 @@ use Rattle.tower_types.specs.declared.scalar.BinOp.TheVariants as op
 use Rattle.tower_types.specs.declared.scalar.UnOp.{UnOp}
 use Rattle.tower_types.specs.declared.scalar.UnOp.TheVariants as un_op
 use Rattle.tower_sexp.specs.Trees.{atom as leaf}
-use Rattle.tower_syntax.specs.RawTree.{Id, RawType, word, rec, array, RawPlace, root, get, index, RawExpr, truth, read, lit, un, bin, choose, cast, RawStmt, bind, local, set, copy, branch, loop, emit, RawStmts, no_stmts, stmt, RawField, RawHpart, emitter, callback, RawPart, state, handler, RawItem, fields, init, period, signal, channel, output, monitor, Raw}
-use Rattle.tower_syntax.specs.RawView.{raw_stmts_of}
-use Rattle.tower_syntax.specs.Words.{IsName, IsWithin, IsCount, IsLiteral, tower_word, scalar_word, binary_word, unary_word, truth_word}
-use Rattle.tower_syntax.specs.Form.{Form, atom}
+use Rattle.tower_syntax.specs.RawTree.{Id, RawType, word, rec, array, RawPlace, root, get, index, RawExpr, truth, read, lit, un, bin, choose, cast}
+use Rattle.tower_syntax.specs.Words.{IsName, IsWithin, IsLiteral, scalar_word, binary_word, unary_word, truth_word}
+use Rattle.tower_syntax.specs.Form.{atom}
 use Rattle.tower_syntax.specs.Form.{row as row_form}
-use Rattle.tower_syntax.specs.Printed.{name_form, number_form, signed_form, scalar_form, type_form, place_form, expr_form, stmt_form, stmt_forms, field_form, hpart_form, part_form, item_form, raw_form}
-use Rattle.tower_syntax.specs.Printable.{IsPrintableScalar, IsPrintableType, IsPrintableLiteral, IsPrintablePlace, IsPrintableExpr, IsPrintableStmt, ArePrintableStmts, IsPrintableField, IsPrintableHpart, IsPrintablePart, IsPrintableDepth, IsPrintableItem, IsPrintable}
+use Rattle.tower_syntax.specs.Printed.{name_form, number_form, signed_form, scalar_form, type_form, place_form, expr_form}
+use Rattle.tower_syntax.specs.Printable.{IsPrintableScalar, IsPrintableType, IsPrintableLiteral, IsPrintablePlace, IsPrintableExpr}
 use Rattle.tower_reader.specs.declared.table.Place.{Place}
 use Rattle.tower_reader.specs.declared.table.Place.TheVariants as place
 use Rattle.tower_reader.specs.declared.table.Atoms.TheVariants as atoms
-use Rattle.tower_reader.specs.declared.table.Row.{Row}
 use Rattle.tower_reader.specs.declared.table.Row.TheVariants as row
-use Rattle.tower_reader.specs.declared.table.ItemRow.TheVariants as item
 use Rattle.tower_reader.specs.declared.table.PartRow.TheVariants as part
-use Rattle.tower_reader.specs.declared.table.StmtRow.TheVariants as stmt_row
 use Rattle.tower_reader.specs.declared.table.ExprRow.TheVariants as expr
-use Rattle.tower_reader.specs.Table.{atoms_at, row_of, place_at}
+use Rattle.tower_reader.specs.Table.{atoms_at, row_of}
 use Rattle.tower_reader.specs.Words.{scalar_named}
-use Rattle.tower_reader.specs.Part.{Part, a_name, a_number, a_literal, a_type, a_place, an_expr, a_stmt, a_block, a_field, an_hpart, a_part, an_item, a_tower, as_name, as_number, as_byte, as_literal, as_type, as_place, as_expr, as_block, as_tower, if_stmt, if_field, if_hpart, if_part, if_item, stmts}
+use Rattle.tower_reader.specs.Part.{Part, a_name, a_number, a_literal, a_type, a_place, an_expr, as_name, as_number, as_literal, as_type, as_place, as_expr}
 use Rattle.tower_reader.specs.Spelled.{fitting, id_at, Reads, names, names_place, names_record, names_value, says_scalar, says_truth, counts, counts_literal}
-use Rattle.tower_reader.specs.Alike.{bare_id, bare_type, bare_place, bare_expr, bare_stmt, bare_stmts, bare_field, bare_hpart, bare_part, bare_item, bare}
-use Rattle.tower_reader.proofs.Lines.{tree_at}
-use Rattle.tower_reader.proofs.RowsBack.{Backs, BacksAll, one, two, three, four, more, one_and_more, two_and_more, HasMore, placed, no_children, child, IsPlacedFrom, map_option, option_cons, list_backs}
+use Rattle.tower_reader.specs.Alike.{bare_id, bare_type, bare_place, bare_expr}
+use Rattle.tower_reader.proofs.RowsBack.{Backs, one, two, three}
 
 -- What is asked of the part that a form is read as.
 

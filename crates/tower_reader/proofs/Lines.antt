@@ -1,6 +1,5 @@
 -- A printed line: its marks, its tokens, and the tree that they spell.
-use Rattle.std.proofs.Common.{◌≡◌, ℕ, zero, suc, ◌+◌, ◌≤◌, max, length, List, [], ◌∷◌, ◌++◌, Bool, true, false, cond, eqb, Option, Some, None, refl, ap, sym, ◌∙◌, subst, append_assoc, append-nil, arith, inl, inr}
-use Rattle.std.specs.List.{fold}
+use Rattle.std.proofs.Common.{◌≡◌, ℕ, ◌+◌, ◌≤◌, length, List, [], ◌∷◌, ◌++◌, Bool, true, false, cond, eqb, Option, Some, None, refl, ap, sym, ◌∙◌, subst, append_assoc, append-nil, arith, inl, inr}
 use Rattle.std.proofs.lemmas.Bool.{eqb-true}
 use Rattle.std.proofs.lemmas.List.{length-append}
 use Rattle.tower_sexp.specs.declared.fault.SexpFault.{SexpFault}
@@ -8,9 +7,9 @@ use Rattle.tower_sexp.specs.declared.fault.SexpFault.TheVariants as fault
 use Rattle.tower_sexp.specs.declared.token.Token.{Token}
 use Rattle.tower_sexp.specs.declared.token.Token.TheVariants as token
 use Rattle.tower_sexp.specs.Marks.{Mark, good, marks_of, tokens, tokens_of}
-use Rattle.tower_sexp.specs.Pieces.{IsOfAtom, AllBytes, BeginsNot, IsRun, Splits}
+use Rattle.tower_sexp.specs.Pieces.{IsOfAtom, AllBytes, BeginsNot, Splits}
 use Rattle.tower_sexp.specs.Pieces.{at_end, a_blank, a_left, a_right, an_atom as an_atom_piece}
-use Rattle.tower_sexp.specs.Faults.{IsFaultless, unclosed, unclosed_behind}
+use Rattle.tower_sexp.specs.Faults.{IsFaultless, unclosed}
 use Rattle.tower_sexp.specs.FirstFault.{or_else, first_wrong, fault_at_end, no_marks, first_fault}
 use Rattle.tower_sexp.specs.Trees.{Tree, Trees, no_trees, tree}
 use Rattle.tower_sexp.specs.Trees.{atom as leaf, list as branch}
@@ -213,7 +212,7 @@ form_faultless f h l =
     let w : first_wrong [] (marks_at 0 f []) ≡ None = text_sound f 0 [] [] (omega arith) in
     let c : unclosed (marks_at 0 f []) ≡ [] = text_closed f 0 [] [] in
     let e : first_fault (marks_at 0 f []) ≡ None =
-        ap (λ o. or_else o (fault_at_end (unclosed (marks_at 0 f [])) (no_marks (marks_at 0 f [])))) w
-        ∙ ap (λ ls. fault_at_end ls (no_marks (marks_at 0 f []))) c
-        ∙ ap (fault_at_end []) (some_marks f 0 []) in
+    ap (λ o. or_else o (fault_at_end (unclosed (marks_at 0 f [])) (no_marks (marks_at 0 f [])))) w
+    ∙ ap (λ ls. fault_at_end ls (no_marks (marks_at 0 f []))) c
+    ∙ ap (fault_at_end []) (some_marks f 0 []) in
     computed_is_faultless (text f) (ap first_fault (form_marks f h) ∙ e)

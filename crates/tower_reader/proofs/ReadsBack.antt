@@ -3,7 +3,6 @@ use Rattle.std.proofs.Common.{sym, subst}
 use Rattle.tower_syntax.specs.Form.{text}
 use Rattle.tower_syntax.specs.Printed.{raw_form}
 use Rattle.tower_reader.specs.declared.table.Place.TheVariants as place
-use Rattle.tower_reader.specs.Part.{a_tower}
 use Rattle.tower_reader.specs.Spelled.{Reads, Spells}
 use Rattle.tower_reader.specs.Laws.{PrintReadsBack}
 use Rattle.tower_reader.proofs.Lines.{tree_at, form_spells, form_faultless}

@@ -1,11 +1,11 @@
 -- Forms that are read back where they are printed: a row, by its children.
-use Rattle.std.proofs.Common.{◌≡◌, ℕ, zero, suc, ◌+◌, ◌≤◌, length, List, [], ◌∷◌, Bool, true, false, cond, ◌&&◌, ◌||◌, nat_le, Option, Some, None, map, refl, ap, ◌∙◌, subst, sym, arith}
+use Rattle.std.proofs.Common.{◌≡◌, ℕ, suc, ◌+◌, ◌≤◌, length, List, [], ◌∷◌, Bool, true, false, cond, ◌&&◌, ◌||◌, nat_le, Option, Some, None, map, refl, ap, ◌∙◌, subst, sym, arith}
 use Rattle.std.specs.List.{All, filter_map, cons_option}
 use Rattle.std.proofs.lemmas.Bool.{le-leb}
 use Rattle.std.proofs.lemmas.List.{get_or_past}
 use Rattle.std.proofs.lemmas.List.Elements.{All-head, All-tail}
-use Rattle.tower_sexp.specs.Trees.{Tree, atom as leaf, Trees, no_trees, tree}
-use Rattle.tower_syntax.specs.Form.{Form, Forms, no_forms, form, forms, row, text}
+use Rattle.tower_sexp.specs.Trees.{atom as leaf, Trees, no_trees, tree}
+use Rattle.tower_syntax.specs.Form.{Form, forms, row, text}
 use Rattle.tower_reader.specs.declared.table.Place.{Place}
 use Rattle.tower_reader.specs.declared.table.Row.{Row}
 use Rattle.tower_reader.specs.Table.{rule, row_of, or_nowhere, place_at, has_more, count_fits}

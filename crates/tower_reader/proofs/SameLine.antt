@@ -1,14 +1,13 @@
 -- Trees are alike exactly where they are printed as the same line.
-use Rattle.std.proofs.Common.{◌≡◌, ℕ, ◌≤◌, length, List, [], ◌∷◌, ◌++◌, Option, Some, None, Ok, map, refl, ap, ◌∙◌, sym, subst}
+use Rattle.std.proofs.Common.{◌≡◌, ℕ, ◌≤◌, length, List, [], ◌∷◌, Ok, map, refl, ap, ◌∙◌, sym, subst}
 use Rattle.std.specs.Prelude.{codes}
 use Rattle.tower_syntax.specs.RawTree.{Id, RawType, word, rec, array, RawPlace, root, get, index, RawExpr, truth, read, lit, un, bin, choose, cast, RawStmt, bind, local, set, copy, branch, loop, emit, RawStmts, no_stmts, stmt, RawField, RawHpart, emitter, callback, RawPart, state, handler, RawItem, fields, init, period, signal, channel, output, monitor, Raw}
 use Rattle.tower_syntax.specs.Form.{Form, text, row}
 use Rattle.tower_syntax.specs.Words.{unary_word, binary_word, tower_word}
 use Rattle.tower_syntax.specs.Printed.{name_form, number_form, type_form, place_form, expr_form, stmt_form, stmt_forms, field_form, hpart_form, part_form, depth_forms, item_form, raw_form}
-use Rattle.tower_reader.specs.Alike.{bare_type, bare_place, bare_expr, bare_stmt, bare_stmts, bare_field, bare_hpart, bare_part, bare_item, bare, IsAlike}
+use Rattle.tower_reader.specs.Alike.{bare_type, bare_place, bare_expr, bare_stmt, bare_stmts, bare_field, bare_hpart, bare_part, bare_item, bare}
 use Rattle.tower_reader.specs.Laws.{AlikePrintSame, SamePrintAlike}
 use Rattle.tower_reader.specs.Spelled.{Spells, byte_limit}
-use Rattle.tower_reader.specs.Verdict.{verdict}
 use Rattle.tower_reader.proofs.Verdicts.{spells_verdict}
 use Rattle.tower_reader.proofs.ReadsBack.{reads_back}
 

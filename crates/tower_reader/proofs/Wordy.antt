@@ -1,5 +1,5 @@
 -- The atoms of a node that is read are words.
-use Rattle.std.proofs.Common.{◌≡◌, ℕ, ◌+◌, ◌<◌, ◌≤◌, ◌^◌, length, List, [], ◌∷◌, Bool, true, false, not, cond, nat_le, ◌&&◌, ◌||◌, inl, inr, ℤ, pos, negsuc, suc, Option, Some, None, find, refl, ap, sym, ◌∙◌, subst, arith, decimal}
+use Rattle.std.proofs.Common.{◌≡◌, ℕ, ◌+◌, ◌<◌, ◌≤◌, ◌^◌, length, List, [], ◌∷◌, Bool, true, false, not, nat_le, ◌&&◌, ◌||◌, ℤ, pos, negsuc, suc, Option, Some, None, find, refl, sym, subst, arith, decimal}
 use Rattle.std.specs.Prelude.{bytes_eq, ◌==◌}
 use Rattle.std.specs.Fmt.{signed_decimal}
 use Rattle.std.specs.List.{list_all}
@@ -9,16 +9,15 @@ use Rattle.std.proofs.lemmas.Int.{ints}
 use Rattle.std.proofs.lemmas.Fmt.{decimal_is_IsNumeral}
 use Rattle.std.proofs.lemmas.Str.Parse.{digit_at}
 use Rattle.std.proofs.lemmas.Slice.Eq.{bytes_eq-Decides}
-use Rattle.tower_types.specs.declared.scalar.Scalar.{Scalar}
-use Rattle.tower_sexp.specs.Pieces.{IsOfAtom, IsSign, AllBytes}
-use Rattle.tower_sexp.specs.Trees.{Tree, atom, list, Trees, no_trees, tree}
-use Rattle.tower_syntax.specs.Spelling.{is_lower, is_digit, is_underscore, goes_on, begins_with_letter, is_reserved, is_name}
+use Rattle.tower_sexp.specs.Pieces.{IsOfAtom, AllBytes}
+use Rattle.tower_sexp.specs.Trees.{Tree, atom, list, Trees, tree}
+use Rattle.tower_syntax.specs.Spelling.{is_lower, is_digit, is_underscore, goes_on, begins_with_letter, is_reserved}
 use Rattle.tower_syntax.specs.Words.{IsName, IsLiteral, truth_word, scalar_word}
 use Rattle.tower_reader.specs.declared.table.Place.{Place}
 use Rattle.tower_reader.specs.declared.table.Place.TheVariants as place
 use Rattle.tower_reader.specs.declared.table.Row.{Row}
-use Rattle.tower_reader.specs.Table.{head, rows, row_of, count_fits}
-use Rattle.tower_reader.specs.Words.{scalars, scalar_named}
+use Rattle.tower_reader.specs.Table.{head, rows, row_of}
+use Rattle.tower_reader.specs.Words.{scalars}
 use Rattle.tower_reader.specs.Part.{Part}
 use Rattle.tower_reader.specs.Spelled.{count, fitting, row_for, Reads, names, names_place, names_record, names_value, says_scalar, says_truth, counts, counts_literal, has_row, ReadsAll, no_more, one_more}
 use Rattle.tower_reader.proofs.Exact.{small}

@@ -1,5 +1,5 @@
 -- A printed file read again, computed, and files that are not alike.
-use Rattle.std.specs.Prelude.{◌≡◌, ℕ, pos, List, [], ◌∷◌, codes, Ok, Some, None}
+use Rattle.std.specs.Prelude.{◌≡◌, ℕ, List, [], ◌∷◌, codes, Ok, Some}
 use Rattle.tower_types.specs.Ty.{Name}
 use Rattle.tower_types.specs.declared.scalar.Scalar.TheVariants.{U8, U16}
 use Rattle.tower_types.specs.declared.scalar.BinOp.TheVariants.{Add}
