@@ -14,7 +14,8 @@ pub fn print_reads_back()
     ensures { PrintReadsBack }
 {}
 
-/// Two trees are equal, offsets apart, exactly where they are printed as the same line.
+/// Trees that are equal, offsets apart, are printed as the same line. Printable trees that are printed as the same line
+/// within the byte limit are equal, offsets apart.
 pub fn alike_law()
     ensures same_line { AlikePrintSame }
     ensures alike { SamePrintAlike }
