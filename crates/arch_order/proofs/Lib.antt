@@ -1,0 +1,5 @@
+pub mod Spans
+pub mod InText
+pub mod Forms
+pub mod Kept
+pub mod InOrder

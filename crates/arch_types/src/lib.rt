@@ -1,0 +1,6 @@
+//! The types of a file: the checked tree, or the first fault.
+#![tactic(auto)]
+
+mod fault;
+
+pub use fault::{TypeFault, Want};
