@@ -3,3 +3,4 @@ pub mod InText
 pub mod Forms
 pub mod Kept
 pub mod InOrder
+pub mod LinkedOrder
