@@ -21,6 +21,7 @@ use Rattle.tower_reader.specs.declared.table.ExprRow.TheVariants as expr
 use Rattle.tower_reader.specs.Table.{rule, rows, place_at}
 use Rattle.tower_reader.specs.Part.{Part, as_name, as_number, as_type, as_place, as_expr, block_at, as_block, as_tower, if_stmt, if_field, if_hpart, if_part, if_item, stmts, first, second, third, rest, build}
 use Rattle.arch_types.specs.Numbered.{IsIndexRange}
+use Rattle.arch_order.proofs.Lists.{AllOf, found}
 use Rattle.arch_order.proofs.InText.{Then, One, Two, Three, AllLie, IdLies, NumberLies, TypeLies, PlaceLies, ExprLies, BlockLies, StmtLies, StmtsLie, FieldLies, HpartLies, PartLies, ItemLies, TowerLies}
 
 -- it is there, and lies so
@@ -252,10 +253,6 @@ makes_cast n at xs a b h m k t = (h, two (row.Expr expr.Cast) (suc n) xs (at + 1
 
 -- ---- the places
 
-abbrev AllOf : {X : Type 0} → (X → Type 0) → List X → Type 0
-AllOf P [] = Unit {0}
-AllOf P (x ∷ xs) = P x × AllOf P xs
-
 all_make : (p : Place) → AllOf (Makes p) (rows p)
 all_make place.Tower = (makes_tower, (makes_tower2, tt))
 all_make place.Item = (makes_record false, (makes_init false, (makes_period, (makes_signal, (makes_channel false, (makes_output false, (makes_monitor false, tt)))))))
@@ -277,14 +274,6 @@ all_make place.Expr = (
     (makes_bin op.Eq, (makes_bin op.Less, (makes_bin op.LessEq, (makes_bin op.Both, (makes_bin op.Either,
     (makes_un un.Not, (makes_un un.Neg, (makes_cond, (makes_cast, tt))))))))))))))))))))))))))))
 all_make _ = tt
-
-found_by : {X : Type 0} (P : X → Type 0) (x y : X) (o : Option X) (b : Bool) → P x → (o ≡ Some y → P y) → cond b (Some x) o ≡ Some y → P y
-found_by P x y o true h k e = let i : x ≡ y = cc in subst P i h
-found_by P x y o false h k e = k e
-
-pub found : {X : Type 0} (P : X → Type 0) (f : X → Bool) (xs : List X) (y : X) → AllOf P xs → find f xs ≡ Some y → P y
-found P f [] y h e = cc
-found P f (x ∷ xs) y h e = found_by P x y (find f xs) (f x) h.0 (found P f xs y h.1) e
 
 -- a row of a place makes a part that lies so
 pub row_makes : (p : Place) (f : Row → Bool) (r : Row) → find f (rows p) ≡ Some r → Makes p r

@@ -20,7 +20,7 @@ up_to : (ns : List ℕ) (a c b : ℕ) → c ≤ b → Between ns a c → Between
 up_to [] a c b h t = omega (arith, h, t)
 up_to (n ∷ ns) a c b h t = (t.0, up_to ns (n + 1) c b h t.1)
 
-order : (ns : List ℕ) (a b : ℕ) → Between ns a b → a ≤ b
+pub order : (ns : List ℕ) (a b : ℕ) → Between ns a b → a ≤ b
 order [] a b t = t
 order (n ∷ ns) a b t = let k = order ns (n + 1) b t.1 in omega (arith, t.0, k)
 
@@ -29,7 +29,7 @@ both [] ys a c b s t = from ys a c b s t
 both (x ∷ xs) ys a c b s t = (s.0, both xs ys (x + 1) c b s.1 t)
 
 -- the names of a part that lies so stand there
-abbrev Names : (ℕ → ℕ → Type 0) → List ℕ → Type 0
+abbrev pub Names : (ℕ → ℕ → Type 0) → List ℕ → Type 0
 Names P ns = (a b : ℕ) → P a b → Between ns a b
 
 behind : (ns : List ℕ) (a at b : ℕ) → a ≤ at → Between ns (at + 1) b → Between ns a b
@@ -54,7 +54,7 @@ all_in P of f (x ∷ xs) a b t = both (of x) (each of xs) a t.0 b (f x a t.0 t.2
 id_in : (x : Id) → Names (IdLies x) (x.at ∷ [])
 id_in x a b t = (t.0, omega (arith, t.1))
 
-type_in : (t : RawType Id) (n : ℕ) → Names (TypeLies n t) (in_type t)
+pub type_in : (t : RawType Id) (n : ℕ) → Names (TypeLies n t) (in_type t)
 type_in (word at s) n a b h = omega (arith, h.0.0, h.0.1)
 type_in (rec u) n a b h = (h.0, omega (arith, h.1))
 type_in (array at len t) n a b h =
@@ -62,14 +62,14 @@ type_in (array at len t) n a b h =
     from (in_type t) a h.1.0 b (omega (arith, h.0, h.1.1.0)) (up_to (in_type t) h.1.0 h.1.2.0 b h.1.2.2 k)
 
 mutual
-  place_in : (p : RawPlace Id) (n : ℕ) → Names (PlaceLies n p) (in_place p)
+  pub place_in : (p : RawPlace Id) (n : ℕ) → Names (PlaceLies n p) (in_place p)
   place_in (root u) n a b h = (h.0, omega (arith, h.1))
   place_in (get at p f) n a b h =
       let k = place_in p (suc n) (at + 1) h.1.0 h.1.1 in
       behind (in_place p) a at b h.0 (up_to (in_place p) (at + 1) h.1.0 b (omega (arith, h.1.2.1.0, h.1.2.1.1, h.1.2.2)) k)
   place_in (index at p e) n a b h = behind (in_place p ++ in_expr e) a at b h.0 (two_in (PlaceLies (suc n) p) (ExprLies (suc n) e) (in_place p) (in_expr e) (place_in p (suc n)) (expr_in e (suc n)) (at + 1) b h.1)
 
-  expr_in : (e : RawExpr Id) (n : ℕ) → Names (ExprLies n e) (in_expr e)
+  pub expr_in : (e : RawExpr Id) (n : ℕ) → Names (ExprLies n e) (in_expr e)
   expr_in (truth at v) n a b h = omega (arith, h.0, h.1)
   expr_in (read p) n a b h = place_in p n a b h
   expr_in (lit at s z) n a b h = omega (arith, h.0.0, h.0.1)
@@ -82,7 +82,7 @@ block_in : (at : ℕ) (P : ℕ → ℕ → Type 0) (xs : List ℕ) → Names P x
 block_in at P xs f a b t = behind xs a at b t.0 (f (at + 1) b t.1)
 
 mutual
-  stmt_in : (s : RawStmt Id) (n : ℕ) → Names (StmtLies n s) (in_stmt s)
+  pub stmt_in : (s : RawStmt Id) (n : ℕ) → Names (StmtLies n s) (in_stmt s)
   stmt_in (bind at x e) n a b h = behind (x.at ∷ in_expr e) a at b h.0 (two_in (IdLies x) (ExprLies (suc n) e) (x.at ∷ []) (in_expr e) (id_in x) (expr_in e (suc n)) (at + 1) b h.1)
   stmt_in (local at x t) n a b h = behind (x.at ∷ in_type t) a at b h.0 (two_in (IdLies x) (TypeLies (suc n) t) (x.at ∷ []) (in_type t) (id_in x) (type_in t (suc n)) (at + 1) b h.1)
   stmt_in (set at p e) n a b h = behind (in_place p ++ in_expr e) a at b h.0 (two_in (PlaceLies (suc n) p) (ExprLies (suc n) e) (in_place p) (in_expr e) (place_in p (suc n)) (expr_in e (suc n)) (at + 1) b h.1)
@@ -97,7 +97,7 @@ mutual
       behind (x.at ∷ in_stmts body) a at b h.0 (h.1.1.0, from (in_stmts body) (x.at + 1) h.1.2.0 b (omega (arith, h.1.1.1, h.1.2.1.0)) l)
   stmt_in (emit at u e) n a b h = behind (u.at ∷ in_expr e) a at b h.0 (two_in (IdLies u) (ExprLies (suc n) e) (u.at ∷ []) (in_expr e) (id_in u) (expr_in e (suc n)) (at + 1) b h.1)
 
-  stmts_in : (ss : RawStmts Id) (n : ℕ) → Names (StmtsLie n ss) (in_stmts ss)
+  pub stmts_in : (ss : RawStmts Id) (n : ℕ) → Names (StmtsLie n ss) (in_stmts ss)
   stmts_in no_stmts n a b h = h.0
   stmts_in (stmt s ss) n a b h = both (in_stmt s) (in_stmts ss) a h.0 b (stmt_in s n a h.0 h.1) (stmts_in ss n h.0 b h.2)
 

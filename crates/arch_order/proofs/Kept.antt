@@ -13,9 +13,10 @@ use Rattle.tower_reader.specs.Table.{atoms_at, rule, head, row_of, place_at, cou
 use Rattle.tower_reader.specs.Part.{Part, a_name, a_number, a_literal, a_type, a_place, an_expr, a_tower, build}
 use Rattle.tower_reader.specs.Spelled.{count, fitting, row_for, id_at, Reads, names, names_place, names_record, names_value, says_scalar, says_truth, counts, counts_literal, has_row, ReadsAll, no_more, one_more, Spells}
 use Rattle.arch_types.specs.Numbered.{IsIndexRange}
+use Rattle.arch_order.proofs.Lists.{found}
 use Rattle.arch_order.proofs.InText.{NumberLies, Leaf, TowerLies}
 use Rattle.arch_order.proofs.Spans.{Stands, AllStand, tree_to, trees_from, text_stands}
-use Rattle.arch_order.proofs.Forms.{Lies, PartsLie, Makes, found, row_makes}
+use Rattle.arch_order.proofs.Forms.{Lies, PartsLie, row_makes}
 
 -- ---- atoms
 

@@ -1,6 +1,9 @@
 pub mod Spans
+pub mod Lists
 pub mod InText
 pub mod Forms
 pub mod Kept
 pub mod InOrder
 pub mod LinkedOrder
+pub mod Meant
+pub mod Heights
