@@ -7,3 +7,4 @@ pub mod InOrder
 pub mod LinkedOrder
 pub mod Meant
 pub mod Heights
+pub mod Scopes
