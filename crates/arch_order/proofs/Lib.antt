@@ -8,3 +8,5 @@ pub mod LinkedOrder
 pub mod Meant
 pub mod Heights
 pub mod Scopes
+pub mod Counted
+pub mod Items
