@@ -10,3 +10,4 @@ pub mod Heights
 pub mod Scopes
 pub mod Counted
 pub mod Items
+pub mod Handlers
