@@ -1,5 +1,5 @@
 -- Lists of a file that lies in a text are no longer than the text.
-use Rattle.std.proofs.Common.{◌≡◌, ℕ, suc, ◌+◌, ◌<◌, ◌≤◌, List, [], ◌∷◌, ◌++◌, map, length, Bool, arith, length-append}
+use Rattle.std.proofs.Common.{ℕ, suc, ◌+◌, ◌≤◌, List, [], ◌∷◌, map, length, Bool, arith, length-append}
 use Rattle.tower_syntax.specs.declared.named.Target.{Target}
 use Rattle.tower_syntax.specs.RawTree.{Id, Link, RawHpart, emitter, callback, RawPart, state, handler, RawItem, fields, init, period, signal, channel, output, monitor}
 use Rattle.arch_names.specs.declared.names.Thing.{Thing}

@@ -1,5 +1,5 @@
 -- Each row of the table makes of parts that lie in text order a part that lies in its text.
-use Rattle.std.proofs.Common.{◌≡◌, ℕ, zero, suc, ◌+◌, ◌<◌, ◌≤◌, List, [], ◌∷◌, length, filter_map, Bool, true, false, cond, Option, Some, None, find, refl, sym, ap, subst, arith}
+use Rattle.std.proofs.Common.{◌≡◌, ℕ, zero, suc, ◌+◌, ◌<◌, ◌≤◌, List, [], ◌∷◌, length, filter_map, Bool, true, false, ◌&&◌, Option, Some, None, find, refl, subst, arith}
 use Rattle.std.specs.List.{cons_option}
 use Rattle.std.proofs.lemmas.List.{get_or_past}
 use Rattle.tower_types.specs.declared.scalar.Scalar.{Scalar}
@@ -8,7 +8,7 @@ use Rattle.tower_types.specs.declared.scalar.BinOp.{BinOp}
 use Rattle.tower_types.specs.declared.scalar.BinOp.TheVariants as op
 use Rattle.tower_types.specs.declared.scalar.UnOp.{UnOp}
 use Rattle.tower_types.specs.declared.scalar.UnOp.TheVariants as un
-use Rattle.tower_syntax.specs.RawTree.{Id, RawStmt, RawStmts, RawField, RawHpart, RawPart, RawItem}
+use Rattle.tower_syntax.specs.RawTree.{Id, RawStmt}
 use Rattle.tower_syntax.specs.RawView.{raw_stmts_of}
 use Rattle.tower_reader.specs.declared.table.Place.{Place}
 use Rattle.tower_reader.specs.declared.table.Place.TheVariants as place
@@ -253,6 +253,39 @@ makes_cast n at xs a b h m k t = (h, two (row.Expr expr.Cast) (suc n) xs (at + 1
 
 -- ---- the places
 
+-- a row of an expression; its literals have no index type but that of a row of its own
+abbrev is_expr : Row → Bool
+is_expr (row.Expr (expr.Lit (scalar.Ix n))) = false
+is_expr (row.Expr e) = true
+is_expr r = false
+
+no_index : (s : Scalar) → is_expr (row.Expr (expr.Lit s)) ≡ true → IsIndexRange s
+no_index (scalar.Ix n) e = cc
+no_index s e = tt
+
+makes_expr : (r : Row) → is_expr r ≡ true → Makes place.Expr r
+makes_expr (row.Expr expr.Get) e = makes_get
+makes_expr (row.Expr expr.At) e = makes_at
+makes_expr (row.Expr (expr.Lit s)) e = makes_lit s (no_index s e)
+makes_expr (row.Expr expr.LitIx) e = makes_lit_ix
+makes_expr (row.Expr (expr.Bin o)) e = makes_bin o
+makes_expr (row.Expr (expr.Un o)) e = makes_un o
+makes_expr (row.Expr expr.Cond) e = makes_cond
+makes_expr (row.Expr expr.Cast) e = makes_cast
+makes_expr r e = cc
+
+abbrev all_exprs : List Row → Bool
+all_exprs [] = true
+all_exprs (r ∷ rs) = is_expr r && all_exprs rs
+
+both_true : (x y : Bool) → x && y ≡ true → (x ≡ true) × (y ≡ true)
+both_true true y e = (refl, e)
+both_true false y e = cc
+
+make_exprs : (rs : List Row) → all_exprs rs ≡ true → AllOf (Makes place.Expr) rs
+make_exprs [] e = tt
+make_exprs (r ∷ rs) e = let k = both_true (is_expr r) (all_exprs rs) e in (makes_expr r k.0, make_exprs rs k.1)
+
 all_make : (p : Place) → AllOf (Makes p) (rows p)
 all_make place.Tower = (makes_tower, (makes_tower2, tt))
 all_make place.Item = (makes_record false, (makes_init false, (makes_period, (makes_signal, (makes_channel false, (makes_output false, (makes_monitor false, tt)))))))
@@ -265,15 +298,8 @@ all_make place.Stmt = (makes_let, (makes_local, (makes_set, (makes_copy, (makes_
 all_make place.Then = (makes_then, tt)
 all_make place.Else = (makes_else, tt)
 all_make place.Place = (makes_get, (makes_at, tt))
-all_make place.Expr = (
-    makes_get, (makes_at,
-    (makes_lit scalar.U8 tt, (makes_lit scalar.U16 tt, (makes_lit scalar.U32 tt, (makes_lit scalar.U64 tt,
-    (makes_lit scalar.I8 tt, (makes_lit scalar.I16 tt, (makes_lit scalar.I32 tt, (makes_lit scalar.I64 tt, (makes_lit_ix,
-    (makes_bin op.Add, (makes_bin op.Sub, (makes_bin op.Mul, (makes_bin op.Div, (makes_bin op.Rem,
-    (makes_bin op.And, (makes_bin op.Or, (makes_bin op.Xor,
-    (makes_bin op.Eq, (makes_bin op.Less, (makes_bin op.LessEq, (makes_bin op.Both, (makes_bin op.Either,
-    (makes_un un.Not, (makes_un un.Neg, (makes_cond, (makes_cast, tt))))))))))))))))))))))))))))
-all_make _ = tt
+all_make place.Expr = make_exprs (rows place.Expr) refl
+all_make p = tt
 
 -- a row of a place makes a part that lies so
 pub row_makes : (p : Place) (f : Row → Bool) (r : Row) → find f (rows p) ≡ Some r → Makes p r

@@ -1,28 +1,26 @@
 -- A linked file that lies in a text is numbered.
-use Rattle.std.proofs.Common.{◌≡◌, ℕ, suc, ◌+◌, ◌<◌, ◌≤◌, ◌^◌, ◌==◌, List, [], ◌∷◌, ◌++◌, map, length, slice_index_or, Bool, All, Option, Some, None, refl, sym, ap, ◌∙◌, subst, append_assoc, arith, length-append}
-use Rattle.tower_types.specs.Ty.{Name, Fields}
+use Rattle.std.proofs.Common.{◌≡◌, ℕ, suc, ◌+◌, ◌≤◌, ◌^◌, ◌==◌, List, [], ◌∷◌, ◌++◌, map, length, slice_index_or, Bool, refl, sym, ap, ◌∙◌, subst, append_assoc, arith, length-append}
 use Rattle.tower_syntax.specs.declared.named.Target.{Target}
 use Rattle.tower_syntax.specs.RawTree.{Id, Link, RawHpart, emitter, callback, RawPart, state, handler, RawItem, fields, init, period, signal, channel, output, monitor, Raw}
 use Rattle.tower_syntax.specs.Arch.{Arch, Monitor}
 use Rattle.tower_syntax.specs.Typed.{no_names}
 use Rattle.tower_syntax.specs.Weights.{states_of}
 use Rattle.tower_reader.specs.Spelled.{Spells}
-use Rattle.arch_names.specs.declared.names.Declared.{Declared}
 use Rattle.arch_names.specs.declared.names.Thing.{Thing}
-use Rattle.arch_names.specs.Names.{Names, Find, find, same}
-use Rattle.arch_names.specs.Sets.{each, counting, declared_by, counted, none_before, declared_in, state_of, next_state, emitter_of, next_emitter, emitters_of}
+use Rattle.arch_names.specs.Names.{Find, find, same}
+use Rattle.arch_names.specs.Sets.{each, counting, none_before, declared_in, state_of, next_state, emitter_of, next_emitter, emitters_of}
 use Rattle.arch_names.specs.Sets.{states_of as state_names}
 use Rattle.arch_names.specs.Site.{Site}
-use Rattle.arch_names.specs.Sites.{Around, around, entry, all_sites, hpart_sites, part_sites, item_sites, sites}
-use Rattle.arch_names.specs.Linked.{linked_all, linked_hpart, linked_part, linked_item, linked}
+use Rattle.arch_names.specs.Sites.{Around, around, entry, hpart_sites, part_sites, item_sites, sites}
+use Rattle.arch_names.specs.Linked.{linked_hpart, linked_part, linked_item, linked}
 use Rattle.arch_names.specs.Resolved.{IsLinked}
-use Rattle.arch_types.specs.Outline.{outline, Written, written_of, handlers_from, handlers_of, monitor_of}
+use Rattle.arch_types.specs.Outline.{outline, written_of, handlers_from, monitor_of}
 use Rattle.arch_types.specs.Outline.{each as each_of, state_of as field_of_state, emitter_of as emitter_in}
 use Rattle.arch_types.specs.Numbered.{Counts, IsSeen, IsEmitter, IsPartOf, IsHandler, IsNumbered}
 use Rattle.arch_order.proofs.Lists.{AllOf, all_both, all_left, all_right, all_contained, each_element, looked_up}
 use Rattle.arch_order.proofs.InText.{AllLie, HpartLies, PartLies, ItemLies, TowerLies}
 use Rattle.arch_order.proofs.Kept.{file_lies}
-use Rattle.arch_order.proofs.Meant.{IsMeant, Exists, RecordsFit, channel_use, heard_use, things_exist}
+use Rattle.arch_order.proofs.Meant.{IsMeant, Exists, channel_use, heard_use, things_exist}
 use Rattle.arch_order.proofs.Heights.{stmts_nested, all_bound_linked, bound_between}
 use Rattle.arch_order.proofs.Scopes.{Fits, StatesFit, EmittersFit, stmts_see}
 use Rattle.arch_order.proofs.Counted.{few, few_emitters, few_handlers}
@@ -49,17 +47,19 @@ module _ (m : Site → Target) (file : Find Thing) where
     hparts_numbered : (a : Around) (c : Counts) → ((x : Id) → Fits a (entry x) c) → a.file ≡ file → (n : ℕ) (hs : List (RawHpart Id)) (from to : ℕ) → to ≤ end → AllLie (HpartLies n) hs from to → AllOf (IsMeant m) (each (hpart_sites a) hs) → AllOf (IsPartOf arch c) (map (linked_hpart m a) hs)
     hparts_numbered a c f same_file n [] from to l h u = tt
     hparts_numbered a c f same_file n (emitter at x v k ∷ hs) from to l h u =
-        let q = u.1.0 tt in
-        (channel_use arch q.0.what _ (fits v.name q.0 (ap (λ f. f v.name) (sym same_file) ∙ q.1)) q.2,
-        hparts_numbered a c f same_file n hs h.0 to l h.3 u.1.1)
+        let q = u.1.0 tt in (
+          channel_use arch q.0.what _ (fits v.name q.0 (ap (λ f. f v.name) (sym same_file) ∙ q.1)) q.2,
+          hparts_numbered a c f same_file n hs h.0 to l h.3 u.1.1,
+        )
     hparts_numbered a c f same_file n (callback at x ss ∷ hs) from to l h u =
         let i = callback at x ss in
         let own = all_left (IsMeant m) (hpart_sites a i) (each (hpart_sites a) hs) u in
         let k = stmts_nested m a ss (entry x) (suc n) h.2.1.0 h.0 h.2.1.2 in
         let b = bound_between ss (suc n) h.2.1.0 h.0 h.2.1.2 in
-        let t = few (HpartLies n) (linked_hpart m a) hs h.0 to h.3 in
-        ((stmts_see m a ss (entry x) c (suc n) h.2.1.0 h.0 (f x) h.2.1.2 own.1, omega (arith, k), omega (arith, short, l, t, b, all_bound_linked m a ss (entry x))),
-        hparts_numbered a c f same_file n hs h.0 to l h.3 (all_right (IsMeant m) (hpart_sites a i) (each (hpart_sites a) hs) u))
+        let t = few (HpartLies n) (linked_hpart m a) hs h.0 to h.3 in (
+          (stmts_see m a ss (entry x) c (suc n) h.2.1.0 h.0 (f x) h.2.1.2 own.1, omega (arith, k), omega (arith, short, l, t, b, all_bound_linked m a ss (entry x))),
+          hparts_numbered a c f same_file n hs h.0 to l h.3 (all_right (IsMeant m) (hpart_sites a i) (each (hpart_sites a) hs) u),
+        )
 
     -- the handlers of a monitor with these states
     module _ (states : Find Target) (k : ℕ) (all : List (RawPart Id)) (same_states : states ≡ find (state_names all)) (numbered : states_of arch k ≡ each_of field_of_state (map (linked_part m file states) all)) where
@@ -92,13 +92,14 @@ module _ (m : Site → Target) (file : Find Thing) where
           let own = all_left (IsMeant m) (part_sites file states i) (each (part_sites file states) ps) u in
           let q = own.1.0 tt in
           let t = few (PartLies n) (linked_part m file states) ps h.0 to h.3 in
-          let near : h.0 ≤ end = omega (arith, l, t) in
-          (record {
-            on = heard_use arch q.0.what _ (fits v.name q.0 q.1) q.2;
-            few = omega (arith, short, near, few_emitters (map (linked_hpart m a) hs), few (HpartLies (suc n)) (linked_hpart m a) hs h.2.1.2.0 h.0 h.2.1.2.2);
-            parts = each_element _ _ (hparts_numbered a (counts_with (map (linked_hpart m a) hs)) (entry_fits hs) refl (suc n) hs h.2.1.2.0 h.0 near h.2.1.2.2 own.1.1);
-          },
-          handlers_numbered n ps h.0 to l h.3 (all_right (IsMeant m) (part_sites file states i) (each (part_sites file states) ps) u))
+          let near : h.0 ≤ end = omega (arith, l, t) in (
+            record {
+              on = heard_use arch q.0.what _ (fits v.name q.0 q.1) q.2;
+              few = omega (arith, short, near, few_emitters (map (linked_hpart m a) hs), few (HpartLies (suc n)) (linked_hpart m a) hs h.2.1.2.0 h.0 h.2.1.2.2);
+              parts = each_element _ _ (hparts_numbered a (counts_with (map (linked_hpart m a) hs)) (entry_fits hs) refl (suc n) hs h.2.1.2.0 h.0 near h.2.1.2.2 own.1.1);
+            },
+            handlers_numbered n ps h.0 to l h.3 (all_right (IsMeant m) (part_sites file states i) (each (part_sites file states) ps) u),
+          )
 
     states_at : (done rest : List Monitor) (x : Monitor) (k : ℕ) → arch.monitors ≡ done ++ x ∷ rest → length done ≡ k → states_of arch k ≡ x.states
     states_at done rest x k e l = (λ i. slice_index_or (map (λ x. x.states) (e i)) (sym l i) []) ∙ nth_states done rest x

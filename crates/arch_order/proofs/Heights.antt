@@ -1,19 +1,19 @@
 -- How deep the parts of a linked file that lies in a text are nested, and how many names they bind.
-use Rattle.std.proofs.Common.{◌≡◌, ℕ, suc, ◌+◌, ◌<◌, ◌≤◌, max, List, [], ◌∷◌, ◌++◌, map, length, None, refl, ap₂, arith, length-append}
+use Rattle.std.proofs.Common.{◌≡◌, ℕ, suc, ◌+◌, ◌≤◌, List, [], ◌∷◌, ◌++◌, length, None, refl, arith, length-append}
 use Rattle.tower_syntax.specs.declared.named.Target.{Target}
-use Rattle.tower_syntax.specs.RawTree.{Id, Link, RawPlace, root, get, index, RawExpr, truth, read, lit, un, bin, choose, cast, RawStmt, bind, local, set, copy, branch, loop, emit, RawStmts, no_stmts, stmt}
+use Rattle.tower_syntax.specs.RawTree.{Id, RawPlace, root, get, index, RawExpr, truth, read, lit, un, bin, choose, cast, RawStmt, bind, local, set, copy, branch, loop, emit, RawStmts, no_stmts, stmt}
 use Rattle.arch_names.specs.declared.names.Thing.{Thing}
 use Rattle.arch_names.specs.declared.names.Scope.{Scope}
 use Rattle.arch_names.specs.Names.{Find}
 use Rattle.arch_names.specs.Site.{Site}
 use Rattle.arch_names.specs.Sites.{Around, seen, past, with_name, after, bound_by, bound_by_all}
-use Rattle.arch_names.specs.Linked.{linked_type, linked_place, linked_expr, linked_stmt, linked_all}
+use Rattle.arch_names.specs.Linked.{linked_place, linked_expr, linked_stmt, linked_all}
 use Rattle.arch_names.specs.Written.{in_expr, in_stmt, in_stmts}
 use Rattle.arch_types.specs.Body.{height, place_height}
 use Rattle.arch_types.specs.Numbered.{nested, nested_all}
 use Rattle.arch_types.specs.Numbered.{bound_by as linked_bound_by, bound_by_all as linked_bound_by_all}
 use Rattle.arch_order.proofs.InText.{PlaceLies, ExprLies, StmtLies, StmtsLie}
-use Rattle.arch_order.proofs.InOrder.{Between, order, stmts_in}
+use Rattle.arch_order.proofs.InOrder.{Between, stmts_in}
 use Rattle.arch_order.proofs.Meant.{type_nested}
 
 module _ (m : Site → Target) (file : Find Thing) (known : Find Target) where

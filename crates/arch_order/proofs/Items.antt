@@ -1,9 +1,9 @@
 -- The items of a linked file that lies in a text are numbered.
-use Rattle.std.proofs.Common.{◌≡◌, ℕ, suc, ◌+◌, ◌<◌, ◌≤◌, ◌^◌, ◌==◌, List, [], ◌∷◌, ◌++◌, map, length, Bool, All, Option, Some, None, refl, sym, ap, ◌∙◌, subst, append_assoc, arith}
+use Rattle.std.proofs.Common.{◌≡◌, ℕ, suc, ◌+◌, ◌<◌, ◌≤◌, ◌^◌, ◌==◌, List, [], ◌∷◌, ◌++◌, map, length, Bool, Some, sym, ap, ◌∙◌, subst, append_assoc, arith}
 use Rattle.tower_types.specs.Ty.{Name}
 use Rattle.tower_syntax.specs.declared.named.Target.{Target}
 use Rattle.tower_syntax.specs.declared.named.Target.TheVariants as target
-use Rattle.tower_syntax.specs.RawTree.{Id, Link, RawField, RawPart, state, handler, RawItem, fields, init, period, signal, channel, output, monitor, Raw}
+use Rattle.tower_syntax.specs.RawTree.{Id, RawField, RawPart, state, handler, RawItem, fields, init, period, signal, channel, output, monitor}
 use Rattle.tower_syntax.specs.Arch.{Arch}
 use Rattle.arch_names.specs.declared.names.Declared.{Declared}
 use Rattle.arch_names.specs.declared.names.Thing.{Thing}
@@ -14,7 +14,7 @@ use Rattle.arch_names.specs.Names.{Names, Find, find, serves, same}
 use Rattle.arch_names.specs.Sets.{each, counting, handler_of, fields_of, states_of, declared_by, counted}
 use Rattle.arch_names.specs.Site.{Site}
 use Rattle.arch_names.specs.Sites.{field_sites, part_sites, item_sites}
-use Rattle.arch_names.specs.Linked.{linked_type, linked_field, linked_part, linked_item}
+use Rattle.arch_names.specs.Linked.{linked_field, linked_part, linked_item}
 use Rattle.arch_types.specs.Numbered.{NamesRecord, IsDeclaredType, IsState, AreItems}
 use Rattle.arch_order.proofs.Lists.{AllOf, all_both, all_left, all_right, all_more, each_element, looked_up}
 use Rattle.arch_order.proofs.InText.{AllLie, FieldLies, PartLies, ItemLies}
@@ -51,8 +51,8 @@ module _ (deep : Bool) (n : ℕ) where
   declared_behind (monitor at x ps ∷ items) k a b h = (
     omega (arith, h.2.0, h.2.1.1.0),
     all_both (λ e. a ≤ e.1.at) (each handler_of ps) (counting declared_by counted k items)
-      (all_more (λ e. h.2.1.0 ≤ e.1.at) (λ e. a ≤ e.1.at) (λ e k. omega (arith, h.2.0, h.2.1.1.0, h.2.1.1.1, k)) (each handler_of ps) (handlers_behind (suc n) ps h.2.1.0 h.0 h.2.1.2))
-      (behind_more a h.0 h.1 (counting declared_by counted k items) (declared_behind items k h.0 b h.3)),
+        (all_more (λ e. h.2.1.0 ≤ e.1.at) (λ e. a ≤ e.1.at) (λ e k. omega (arith, h.2.0, h.2.1.1.0, h.2.1.1.1, k)) (each handler_of ps) (handlers_behind (suc n) ps h.2.1.0 h.0 h.2.1.2))
+        (behind_more a h.0 h.1 (counting declared_by counted k items) (declared_behind items k h.0 b h.3)),
   )
 
 -- no record from a number on
@@ -106,8 +106,8 @@ module _ (m : Site → Target) (file : Find Thing) where
       let P : Declared Thing → Type 0 = λ d. (t : Target) → serves sort.Record d.what ≡ Some t → d.at < x.at → NamesRecord k.records t in
       looked_up P (same name) (ns ++ (x.name, record { at = x.at; what = w }) ∷ rest) d
       (all_both (λ e. P e.1) ns _
-        (all_more (λ e. Before k.records e.1.what) (λ e. P e.1) (λ e b t s l. before_use k.records e.1.what t b s) ns h)
-        ((λ t s l. absurd (omega (arith, l))), all_more (λ e. c ≤ e.1.at) (λ e. P e.1) (λ e b t s j. absurd (omega (arith, b, j, l))) rest r))
+      (all_more (λ e. Before k.records e.1.what) (λ e. P e.1) (λ e b t s l. before_use k.records e.1.what t b s) ns h)
+      ((λ t s l. absurd (omega (arith, l))), all_more (λ e. c ≤ e.1.at) (λ e. P e.1) (λ e b t s j. absurd (omega (arith, b, j, l))) rest r))
       (sym (ap (λ f. f name) e) ∙ f) t s q
 
   fields_numbered : (before at : ℕ) → EarlyRecordsFit before at file → (names : Find (Unit {0})) (n : ℕ) (fs : List (RawField Id)) (a b : ℕ) → AllLie (FieldLies n) fs a b → AllOf (IsMeant m) (each (field_sites file at names) fs) → AllOf (λ f. IsDeclaredType before f.ty) (map (linked_field m file at) fs)
@@ -115,9 +115,10 @@ module _ (m : Site → Target) (file : Find Thing) where
   fields_numbered before at f names n (x ∷ fs) a b h u =
       let own = all_left (IsMeant m) (field_sites file at names x) (each (field_sites file at names) fs) u in
       let t = h.2.1.2.1 in
-      let k = type_nested m file (Some at) x.ty (suc n) h.2.1.0 h.2.1.2.0 t in
-      ((early_type_written m file before at f x.ty (suc n) h.2.1.0 h.2.1.2.0 t own.1, omega (arith, k)),
-      fields_numbered before at f names n fs h.0 b h.3 (all_right (IsMeant m) (field_sites file at names x) (each (field_sites file at names) fs) u))
+      let k = type_nested m file (Some at) x.ty (suc n) h.2.1.0 h.2.1.2.0 t in (
+        (early_type_written m file before at f x.ty (suc n) h.2.1.0 h.2.1.2.0 t own.1, omega (arith, k)),
+        fields_numbered before at f names n fs h.0 b h.3 (all_right (IsMeant m) (field_sites file at names x) (each (field_sites file at names) fs) u),
+      )
 
   states_numbered : (r : ℕ) → RecordsFit r file → (states : Find Target) (n : ℕ) (ps : List (RawPart Id)) (a b : ℕ) → AllLie (PartLies n) ps a b → AllOf (IsMeant m) (each (part_sites file states) ps) → AllOf (IsState r) (map (linked_part m file states) ps)
   states_numbered r f states n [] a b h u = tt
@@ -138,36 +139,41 @@ module _ (m : Site → Target) (file : Find Thing) where
     own item items u = all_left (IsMeant m) (item_sites file item) (each (item_sites file) items) u
 
     pub items_numbered : (items : List (RawItem Id)) (k : Counts) (before : ℕ) (ns : Names Thing) (a : ℕ)
-      → before ≡ k.records → file ≡ find (ns ++ counting declared_by counted k items) → AllBefore k.records ns
-      → AllLie (ItemLies (version == 2) n) items a end → AllOf (IsMeant m) (each (item_sites file) items)
-      → AreItems arch version before (map (linked_item m file) items)
+        → before ≡ k.records → file ≡ find (ns ++ counting declared_by counted k items) → AllBefore k.records ns
+        → AllLie (ItemLies (version == 2) n) items a end → AllOf (IsMeant m) (each (item_sites file) items)
+        → AreItems arch version before (map (linked_item m file) items)
     items_numbered [] k before ns a e f p h u = tt
     items_numbered (fields at x fs ∷ items) k before ns a e f p h u =
         let i = fields at x fs in
-        let o = early k ns (counting declared_by counted (counted k i) items) x (thing.Record k.records) h.2.1.0 h.2.1.1.1 p (all_more (λ e. h.0 ≤ e.1.at) (λ e. h.2.1.0 ≤ e.1.at) (λ e l. omega (arith, l, few (FieldLies (suc n)) (linked_field m file x.at) fs h.2.1.0 h.0 h.2.1.2)) _ (declared_behind (version == 2) n items (counted k i) h.0 end h.3)) f in
-        (each_element _ _ (fields_numbered before x.at (subst (λ r. EarlyRecordsFit r x.at file) (sym e) o) (find (fields_of fs)) (suc n) fs h.2.1.0 h.0 h.2.1.2 (own i items u).1),
-        omega (arith, short, few (FieldLies (suc n)) (linked_field m file x.at) fs h.2.1.0 h.0 h.2.1.2, few (ItemLies (version == 2) n) (linked_item m file) items h.0 end h.3),
-        items_numbered items (counted k i) (suc before) (ns ++ declared_by k i) h.0 (omega (arith, e)) (step k ns i items f) (before_step k ns i p) h.3 (rest i items u))
+        let o = early k ns (counting declared_by counted (counted k i) items) x (thing.Record k.records) h.2.1.0 h.2.1.1.1 p (all_more (λ e. h.0 ≤ e.1.at) (λ e. h.2.1.0 ≤ e.1.at) (λ e l. omega (arith, l, few (FieldLies (suc n)) (linked_field m file x.at) fs h.2.1.0 h.0 h.2.1.2)) _ (declared_behind (version == 2) n items (counted k i) h.0 end h.3)) f in (
+          each_element _ _ (fields_numbered before x.at (subst (λ r. EarlyRecordsFit r x.at file) (sym e) o) (find (fields_of fs)) (suc n) fs h.2.1.0 h.0 h.2.1.2 (own i items u).1),
+          omega (arith, short, few (FieldLies (suc n)) (linked_field m file x.at) fs h.2.1.0 h.0 h.2.1.2, few (ItemLies (version == 2) n) (linked_item m file) items h.0 end h.3),
+          items_numbered items (counted k i) (suc before) (ns ++ declared_by k i) h.0 (omega (arith, e)) (step k ns i items f) (before_step k ns i p) h.3 (rest i items u),
+        )
     items_numbered (init at x p0 ∷ items) k before ns a e f p h u = let i = init at x p0 in items_numbered items (counted k i) before (ns ++ declared_by k i) h.0 e (step k ns i items f) (before_step k ns i p) h.3 (rest i items u)
     items_numbered (period at x ms p0 d ∷ items) k before ns a e f p h u =
         let i = period at x ms p0 d in
         (h.2.1.2.1.1, h.2.2, items_numbered items (counted k i) before (ns ++ declared_by k i) h.0 e (step k ns i items f) (before_step k ns i p) h.3 (rest i items u))
     items_numbered (signal at x t p0 d ∷ items) k before ns a e f p h u =
-        let i = signal at x t p0 d in
-        (declared m file (length arch.records) (records_fit arch file fits) t n h.2.1.0 h.2.1.2.0 h.2.1.2.1 (own i items u).1,
-        h.2.2,
-        items_numbered items (counted k i) before (ns ++ declared_by k i) h.0 e (step k ns i items f) (before_step k ns i p) h.3 (rest i items u))
+        let i = signal at x t p0 d in (
+          declared m file (length arch.records) (records_fit arch file fits) t n h.2.1.0 h.2.1.2.0 h.2.1.2.1 (own i items u).1,
+          h.2.2,
+          items_numbered items (counted k i) before (ns ++ declared_by k i) h.0 e (step k ns i items f) (before_step k ns i p) h.3 (rest i items u),
+        )
     items_numbered (channel at x t ∷ items) k before ns a e f p h u =
-        let i = channel at x t in
-        (declared m file (length arch.records) (records_fit arch file fits) t n h.2.1.0 h.2.1.2.0 h.2.1.2.1 (own i items u).1,
-        items_numbered items (counted k i) before (ns ++ declared_by k i) h.0 e (step k ns i items f) (before_step k ns i p) h.3 (rest i items u))
+        let i = channel at x t in (
+          declared m file (length arch.records) (records_fit arch file fits) t n h.2.1.0 h.2.1.2.0 h.2.1.2.1 (own i items u).1,
+          items_numbered items (counted k i) before (ns ++ declared_by k i) h.0 e (step k ns i items f) (before_step k ns i p) h.3 (rest i items u),
+        )
     items_numbered (output at x v ∷ items) k before ns a e f p h u =
         let i = output at x v in
-        let q = (own i items u).1.0 tt in
-        (channel_use arch q.0.what _ (fits v.name q.0 q.1) q.2,
-        items_numbered items k before (ns ++ declared_by k i) h.0 e (step k ns i items f) (before_step k ns i p) h.3 (rest i items u))
+        let q = (own i items u).1.0 tt in (
+          channel_use arch q.0.what _ (fits v.name q.0 q.1) q.2,
+          items_numbered items k before (ns ++ declared_by k i) h.0 e (step k ns i items f) (before_step k ns i p) h.3 (rest i items u),
+        )
     items_numbered (monitor at x ps ∷ items) k before ns a e f p h u =
-        let i = monitor at x ps in
-        (each_element _ _ (states_numbered (length arch.records) (records_fit arch file fits) (find (states_of ps)) (suc n) ps h.2.1.0 h.0 h.2.1.2 (own i items u).1),
-        omega (arith, short, few (PartLies (suc n)) (linked_part m file (find (states_of ps))) ps h.2.1.0 h.0 h.2.1.2, few (ItemLies (version == 2) n) (linked_item m file) items h.0 end h.3),
-        items_numbered items k before (ns ++ declared_by k i) h.0 e (step k ns i items f) (before_step k ns i p) h.3 (rest i items u))
+        let i = monitor at x ps in (
+          each_element _ _ (states_numbered (length arch.records) (records_fit arch file fits) (find (states_of ps)) (suc n) ps h.2.1.0 h.0 h.2.1.2 (own i items u).1),
+          omega (arith, short, few (PartLies (suc n)) (linked_part m file (find (states_of ps))) ps h.2.1.0 h.0 h.2.1.2, few (ItemLies (version == 2) n) (linked_item m file) items h.0 end h.3),
+          items_numbered items k before (ns ++ declared_by k i) h.0 e (step k ns i items f) (before_step k ns i p) h.3 (rest i items u),
+        )

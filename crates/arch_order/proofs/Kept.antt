@@ -1,5 +1,5 @@
 -- What a text spells lies in it.
-use Rattle.std.proofs.Common.{◌≡◌, ℕ, suc, ◌+◌, ◌<◌, ◌≤◌, List, [], ◌∷◌, length, Bool, true, false, cond, ◌&&◌, Option, Some, None, refl, sym, ap, subst, arith, leb, leb-true, bytes_eq}
+use Rattle.std.proofs.Common.{◌≡◌, ℕ, suc, ◌+◌, ◌<◌, ◌≤◌, List, length, Bool, true, false, cond, ◌&&◌, Option, Some, None, refl, ap, subst, arith, leb, leb-true, bytes_eq}
 use Rattle.tower_types.specs.declared.scalar.Scalar.{Scalar}
 use Rattle.tower_sexp.specs.Trees.{Tree, atom, list, Trees, no_trees, tree}
 use Rattle.tower_syntax.specs.RawTree.{Id, word, rec, root, truth, Raw}
@@ -10,8 +10,8 @@ use Rattle.tower_reader.specs.declared.table.Atoms.TheVariants as atoms
 use Rattle.tower_reader.specs.declared.table.Row.{Row}
 use Rattle.tower_reader.specs.Words.{scalars, scalar_named}
 use Rattle.tower_reader.specs.Table.{atoms_at, rule, head, row_of, place_at, count_fits}
-use Rattle.tower_reader.specs.Part.{Part, a_name, a_number, a_literal, a_type, a_place, an_expr, a_tower, build}
-use Rattle.tower_reader.specs.Spelled.{count, fitting, row_for, id_at, Reads, names, names_place, names_record, names_value, says_scalar, says_truth, counts, counts_literal, has_row, ReadsAll, no_more, one_more, Spells}
+use Rattle.tower_reader.specs.Part.{Part, a_name, a_number, a_type, a_place, an_expr, a_tower}
+use Rattle.tower_reader.specs.Spelled.{count, fitting, id_at, Reads, names, names_place, names_record, names_value, says_scalar, says_truth, counts, counts_literal, has_row, ReadsAll, no_more, one_more, Spells}
 use Rattle.arch_types.specs.Numbered.{IsIndexRange}
 use Rattle.arch_order.proofs.Lists.{found}
 use Rattle.arch_order.proofs.InText.{NumberLies, Leaf, TowerLies}

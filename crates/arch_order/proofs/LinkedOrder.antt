@@ -1,5 +1,5 @@
 -- The parts of a linked file that lies in a text stand in text order.
-use Rattle.std.proofs.Common.{◌≡◌, ℕ, suc, ◌+◌, ◌<◌, ◌≤◌, List, [], ◌∷◌, ◌++◌, map, length, Bool, Option, None, refl, sym, ap, subst, ◌∙◌, append_assoc, arith}
+use Rattle.std.proofs.Common.{◌≡◌, ℕ, suc, ◌+◌, ◌<◌, ◌≤◌, List, [], ◌∷◌, ◌++◌, map, length, Bool, None, refl, sym, ap, subst, ◌∙◌, append_assoc, arith}
 use Rattle.tower_syntax.specs.declared.named.Target.{Target}
 use Rattle.tower_syntax.specs.RawTree.{Id, Link, RawType, word, rec, array, RawPlace, root, get, index, RawExpr, truth, read, lit, un, bin, choose, cast, RawStmt, bind, local, set, copy, branch, loop, emit, RawStmts, no_stmts, stmt, RawHpart, emitter, callback, RawPart, state, handler, RawItem, fields, init, period, signal, channel, output, monitor, Raw}
 use Rattle.tower_syntax.specs.Offset.{link_offset, type_offset, place_offset, expr_offset, stmt_offset}
@@ -15,7 +15,7 @@ use Rattle.arch_names.specs.Linked.{linked_type, linked_place, linked_expr, link
 use Rattle.arch_names.specs.Resolved.{IsLinked}
 use Rattle.arch_types.specs.Order.{AscendsPlace, AscendsStmt, AscendsAll, start_in}
 use Rattle.arch_types.specs.Order.{Ascends as AscendsExpr}
-use Rattle.arch_types.specs.Outline.{each, Written, written_of, handlers_from, handlers_of, callback_of}
+use Rattle.arch_types.specs.Outline.{each, Written, written_of, handlers_from, callback_of}
 use Rattle.arch_types.specs.File.{start_of, AscendCallbacks, AscendsFile}
 use Rattle.arch_order.proofs.InText.{AllLie, TypeLies, PlaceLies, ExprLies, StmtLies, StmtsLie, HpartLies, PartLies, ItemLies, TowerLies}
 use Rattle.arch_order.proofs.Kept.{file_lies}
@@ -116,13 +116,14 @@ module _ (m : Site → Target) (a : Around) where
       place_order m a.file (seen a s) q (suc n) h.1.0 h.1.2.0 end h.1.2.1 (omega (arith, h.1.2.2, l)),
     )
     stmt_order (branch at e then_at ss else_at ts) s n from to end h l =
-        let z = past_binders s (bound_by_all ss) in
-        (past at _ (expr_starts m a.file (seen a s) e (suc n) (at + 1) h.1.0 h.1.1),
-        expr_order m a.file (seen a s) e (suc n) (at + 1) h.1.0 then_at h.1.1 h.1.2.1.0,
-        past then_at _ (stmts_start ss s (suc (suc n)) (then_at + 1) h.1.2.0 else_at h.1.2.1.1 h.1.2.2.1.0),
-        stmts_order ss s (suc (suc n)) (then_at + 1) h.1.2.0 else_at h.1.2.1.1 h.1.2.2.1.0,
-        past else_at _ (stmts_start ts z (suc (suc n)) (else_at + 1) h.1.2.2.0 end h.1.2.2.1.1 (omega (arith, h.1.2.2.2, l))),
-        stmts_order ts z (suc (suc n)) (else_at + 1) h.1.2.2.0 end h.1.2.2.1.1 (omega (arith, h.1.2.2.2, l)))
+        let z = past_binders s (bound_by_all ss) in (
+          past at _ (expr_starts m a.file (seen a s) e (suc n) (at + 1) h.1.0 h.1.1),
+          expr_order m a.file (seen a s) e (suc n) (at + 1) h.1.0 then_at h.1.1 h.1.2.1.0,
+          past then_at _ (stmts_start ss s (suc (suc n)) (then_at + 1) h.1.2.0 else_at h.1.2.1.1 h.1.2.2.1.0),
+          stmts_order ss s (suc (suc n)) (then_at + 1) h.1.2.0 else_at h.1.2.1.1 h.1.2.2.1.0,
+          past else_at _ (stmts_start ts z (suc (suc n)) (else_at + 1) h.1.2.2.0 end h.1.2.2.1.1 (omega (arith, h.1.2.2.2, l))),
+          stmts_order ts z (suc (suc n)) (else_at + 1) h.1.2.2.0 end h.1.2.2.1.1 (omega (arith, h.1.2.2.2, l)),
+        )
     stmt_order (loop at x k body) s n from to end h l =
         let b = stmts_start body (with_name s x) (suc n) h.1.2.0 to end h.1.2.2 l in
         (omega (arith, h.1.1.0, h.1.1.1, h.1.2.1.0, b), stmts_order body (with_name s x) (suc n) h.1.2.0 to end h.1.2.2 l)

@@ -1,24 +1,24 @@
 -- What the uses of a file that lies in a text refer to exists.
-use Rattle.std.proofs.Common.{◌≡◌, ℕ, suc, ◌+◌, ◌<◌, ◌≤◌, List, [], ◌∷◌, ◌++◌, map, length, Option, Some, None, refl, sym, ap, ◌∙◌, subst, append_assoc, arith}
+use Rattle.std.proofs.Common.{◌≡◌, ℕ, suc, ◌+◌, ◌<◌, ◌≤◌, List, [], ◌∷◌, map, length, Option, Some, None, subst, arith}
 use Rattle.tower_types.specs.Ty.{Name}
 use Rattle.tower_syntax.specs.declared.named.Target.{Target}
 use Rattle.tower_syntax.specs.declared.named.Target.TheVariants as target
-use Rattle.tower_syntax.specs.RawTree.{Id, Link, RawType, word, rec, array, RawPart, state, handler, RawItem, fields, init, period, signal, channel, output, monitor, Raw}
+use Rattle.tower_syntax.specs.RawTree.{Id, RawType, word, rec, array, RawPart, state, handler, RawItem, fields, init, period, signal, channel, output, monitor}
 use Rattle.tower_syntax.specs.Arch.{Arch}
 use Rattle.arch_names.specs.declared.names.Declared.{Declared}
 use Rattle.arch_names.specs.declared.names.Thing.{Thing}
 use Rattle.arch_names.specs.declared.names.Thing.TheVariants as thing
 use Rattle.arch_names.specs.declared.names.Counts.{Counts}
 use Rattle.arch_names.specs.declared.fault.Sort.TheVariants as sort
-use Rattle.arch_names.specs.Names.{Names, Find, find, serves, same}
-use Rattle.arch_names.specs.Sets.{each, counting, handler_of, declared_by, counted, declared_in, none_before}
+use Rattle.arch_names.specs.Names.{Find, serves}
+use Rattle.arch_names.specs.Sets.{each, counting, handler_of, declared_by, counted}
 use Rattle.arch_names.specs.Site.{Site, Means, IsUse}
 use Rattle.arch_names.specs.Sites.{type_sites}
 use Rattle.arch_names.specs.Linked.{linked_type, linked_item}
 use Rattle.arch_types.specs.Numbered.{NamesRecord, IsWrittenType, type_nesting, IsChannel, IsHeard}
 use Rattle.arch_types.specs.Outline.{record_of, source_of, channel_of}
 use Rattle.arch_types.specs.Outline.{each as each_of}
-use Rattle.arch_order.proofs.Lists.{AllOf, all_both, all_more, looked_up}
+use Rattle.arch_order.proofs.Lists.{AllOf, all_both}
 use Rattle.arch_order.proofs.InText.{TypeLies}
 
 -- a use refers to what the linking gives for it
@@ -67,10 +67,10 @@ handlers_exist r s c (handler at x u hs ∷ ps) = (tt, handlers_exist r s c ps)
 module _ (m : Site → Target) (file : Find Thing) where
   -- the file's names from some items on, behind so many
   pub things_exist : (items : List (RawItem Id)) (n : Counts) (r s c : ℕ)
-    → n.records + length (each_of record_of (map (linked_item m file) items)) ≡ r
-    → n.sources + length (each_of source_of (map (linked_item m file) items)) ≡ s
-    → n.channels + length (each_of channel_of (map (linked_item m file) items)) ≡ c
-    → AllOf (λ e. Exists r s c e.1.what) (counting declared_by counted n items)
+      → n.records + length (each_of record_of (map (linked_item m file) items)) ≡ r
+      → n.sources + length (each_of source_of (map (linked_item m file) items)) ≡ s
+      → n.channels + length (each_of channel_of (map (linked_item m file) items)) ≡ c
+      → AllOf (λ e. Exists r s c e.1.what) (counting declared_by counted n items)
   things_exist [] n r s c i j k = tt
   things_exist (fields at x fs ∷ items) n r s c i j k = (omega (arith, i), things_exist items (counted n (fields at x fs)) r s c (omega (arith, i)) j k)
   things_exist (init at x p ∷ items) n r s c i j k = (omega (arith, j), things_exist items (counted n (init at x p)) r s c i (omega (arith, j)) k)

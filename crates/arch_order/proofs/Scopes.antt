@@ -1,18 +1,18 @@
 -- The uses in the callbacks of a linked file that lies in a text are of names in scope.
-use Rattle.std.proofs.Common.{◌≡◌, ℕ, suc, ◌+◌, ◌<◌, ◌≤◌, List, [], ◌∷◌, ◌++◌, map, length, Bool, true, false, cond, eqb, Option, Some, None, refl, sym, ap, ◌∙◌, subst, arith}
+use Rattle.std.proofs.Common.{◌≡◌, ℕ, suc, ◌+◌, ◌++◌, Bool, true, false, cond, eqb, Option, Some, None, sym, ap, subst, arith}
 use Rattle.std.specs.Option.{option_or}
 use Rattle.std.proofs.lemmas.Bool.{eq-eqb}
 use Rattle.tower_types.specs.Ty.{Name}
 use Rattle.tower_syntax.specs.declared.named.Target.{Target}
 use Rattle.tower_syntax.specs.declared.named.Target.TheVariants as target
-use Rattle.tower_syntax.specs.RawTree.{Id, Link, RawType, RawPlace, root, get, index, RawExpr, truth, read, lit, un, bin, choose, cast, RawStmt, bind, local, set, copy, branch, loop, emit, RawStmts, no_stmts, stmt}
+use Rattle.tower_syntax.specs.RawTree.{Id, RawType, RawPlace, root, get, index, RawExpr, truth, read, lit, un, bin, choose, cast, RawStmt, bind, local, set, copy, branch, loop, emit, RawStmts, no_stmts, stmt}
 use Rattle.tower_syntax.specs.Typed.{Use, read_only, writable, IsInScope}
 use Rattle.arch_names.specs.declared.names.Declared.{Declared}
 use Rattle.arch_names.specs.declared.names.Thing.{Thing}
 use Rattle.arch_names.specs.declared.names.Scope.{Scope}
 use Rattle.arch_names.specs.Names.{Find, find, same}
 use Rattle.arch_names.specs.Site.{Site}
-use Rattle.arch_names.specs.Sites.{Around, seen, past, with_name, after, bound_by, bound_by_all, type_sites, place_sites, expr_sites, stmt_sites, all_sites, name_site}
+use Rattle.arch_names.specs.Sites.{Around, seen, past, with_name, after, bound_by_all, type_sites, place_sites, expr_sites, stmt_sites, all_sites, name_site}
 use Rattle.arch_names.specs.Linked.{linked_type, linked_place, linked_expr, linked_stmt, linked_all}
 use Rattle.arch_types.specs.Numbered.{Counts, IsSeen, IsEmitter, naming, SeesPlace, Sees, SeesStmt, SeesAll, IsDeclaredType}
 use Rattle.arch_types.specs.Numbered.{past as past_counts, after as after_counts}
@@ -123,10 +123,11 @@ module _ (m : Site → Target) (file : Find Thing) (c : Counts) (records : Recor
       expr_sees y (suc n) h.1.0 h.1.2.0 h.1.2.1 (all_right (IsMeant m) (expr_sites file known x) (expr_sites file known y) l),
     )
     expr_sees (choose at x y z) n a b h l =
-        let k = all_left (IsMeant m) (expr_sites file known x ++ expr_sites file known y) (expr_sites file known z) l in
-        (expr_sees x (suc n) (at + 1) h.1.0 h.1.1 (all_left (IsMeant m) (expr_sites file known x) (expr_sites file known y) k),
-        expr_sees y (suc n) h.1.0 h.1.2.0 h.1.2.1 (all_right (IsMeant m) (expr_sites file known x) (expr_sites file known y) k),
-        expr_sees z (suc n) h.1.2.0 h.1.2.2.0 h.1.2.2.1 (all_right (IsMeant m) (expr_sites file known x ++ expr_sites file known y) (expr_sites file known z) l))
+        let k = all_left (IsMeant m) (expr_sites file known x ++ expr_sites file known y) (expr_sites file known z) l in (
+          expr_sees x (suc n) (at + 1) h.1.0 h.1.1 (all_left (IsMeant m) (expr_sites file known x) (expr_sites file known y) k),
+          expr_sees y (suc n) h.1.0 h.1.2.0 h.1.2.1 (all_right (IsMeant m) (expr_sites file known x) (expr_sites file known y) k),
+          expr_sees z (suc n) h.1.2.0 h.1.2.2.0 h.1.2.2.1 (all_right (IsMeant m) (expr_sites file known x ++ expr_sites file known y) (expr_sites file known z) l),
+        )
     expr_sees (cast at t x) n a b h l = (
       declared m file c.records records t n (at + 1) h.1.0 h.1.1 (all_left (IsMeant m) (type_sites file None t) (expr_sites file known x) l),
       expr_sees x (suc n) h.1.0 h.1.2.0 h.1.2.1 (all_right (IsMeant m) (type_sites file None t) (expr_sites file known x) l),
@@ -156,10 +157,11 @@ module _ (m : Site → Target) (a : Around) where
     )
     stmt_sees (branch at e then_at ss else_at ts) s c n from to f h l =
         let z = past s (bound_by_all ss) in
-        let k = all_left (IsMeant m) (expr_sites a.file (seen a s) e ++ all_sites a s ss) (all_sites a z ts) l in
-        (expr_sees m a.file c f.records (seen a s) (known a s c f) e (suc n) (at + 1) h.1.0 h.1.1 (all_left (IsMeant m) (expr_sites a.file (seen a s) e) (all_sites a s ss) k),
-        stmts_see ss s c (suc (suc n)) (then_at + 1) h.1.2.0 f h.1.2.1.1 (all_right (IsMeant m) (expr_sites a.file (seen a s) e) (all_sites a s ss) k),
-        stmts_see ts z _ (suc (suc n)) (else_at + 1) h.1.2.2.0 (more_bound a s c (s.binders + bound_by_all ss) _ (omega (arith, f.binders, all_bound_linked m a ss s)) f) h.1.2.2.1.1 (all_right (IsMeant m) (expr_sites a.file (seen a s) e ++ all_sites a s ss) (all_sites a z ts) l))
+        let k = all_left (IsMeant m) (expr_sites a.file (seen a s) e ++ all_sites a s ss) (all_sites a z ts) l in (
+          expr_sees m a.file c f.records (seen a s) (known a s c f) e (suc n) (at + 1) h.1.0 h.1.1 (all_left (IsMeant m) (expr_sites a.file (seen a s) e) (all_sites a s ss) k),
+          stmts_see ss s c (suc (suc n)) (then_at + 1) h.1.2.0 f h.1.2.1.1 (all_right (IsMeant m) (expr_sites a.file (seen a s) e) (all_sites a s ss) k),
+          stmts_see ts z _ (suc (suc n)) (else_at + 1) h.1.2.2.0 (more_bound a s c (s.binders + bound_by_all ss) _ (omega (arith, f.binders, all_bound_linked m a ss s)) f) h.1.2.2.1.1 (all_right (IsMeant m) (expr_sites a.file (seen a s) e ++ all_sites a s ss) (all_sites a z ts) l),
+        )
     stmt_sees (loop at x k body) s c n from to f h l = (
       h.1.2.1.1,
       h.1.2.1.2,

@@ -1,5 +1,5 @@
 -- Where the trees of a text stand: each behind the one before it, and in at most 256 lists.
-use Rattle.std.proofs.Common.{◌≡◌, ℕ, suc, ◌+◌, ◌<◌, ◌≤◌, inl, inr, eq-or-lt_of_le, List, [], ◌∷◌, ◌++◌, length, Bool, true, false, cond, eqb, ap, sym, subst, append_assoc, append-nil, arith, Some, None}
+use Rattle.std.proofs.Common.{◌≡◌, ℕ, suc, ◌+◌, ◌<◌, ◌≤◌, inl, inr, eq-or-lt_of_le, List, [], ◌∷◌, ◌++◌, length, cond, eqb, ap, sym, subst, append_assoc, append-nil, arith, Some, None}
 use Rattle.std.proofs.lemmas.Bool.{eq-eqb}
 use Rattle.std.proofs.lemmas.List.{length-append}
 use Rattle.tower_sexp.specs.declared.fault.SexpFault.TheVariants as fault
@@ -56,8 +56,9 @@ TokensStand lists (token.Atom at text ∷ us) a b = (a ≤ at) × TokensStand li
 
 few_lists : (at n : ℕ) → n ≤ 256 → cond (eqb n 256) (Some (fault.Nest at)) None ≡ None → n < 256
 few_lists at n l h = elim (eq-or-lt_of_le l) [
-    inl e ↦ (let k : cond (eqb n 256) (Some (fault.Nest at)) None ≡ Some (fault.Nest at) = ap (λ b. cond b (Some (fault.Nest at)) None) (eq-eqb n 256 e) in cc)
-  | inr e ↦ e ]
+  | inl e ↦ (let k : cond (eqb n 256) (Some (fault.Nest at)) None ≡ Some (fault.Nest at) = ap (λ b. cond b (Some (fault.Nest at)) None) (eq-eqb n 256 e) in cc)
+  | inr e ↦ e
+]
 
 tokens_stand : (ms : List Mark) (lists : List ℕ) (a b : ℕ) → length lists ≤ 256 → MarksStand ms a b → first_wrong lists ms ≡ None → TokensStand lists (tokens ms) a b
 tokens_stand [] lists a b n t h = t
