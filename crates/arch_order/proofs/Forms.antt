@@ -5,9 +5,7 @@ use Rattle.std.proofs.lemmas.List.{get_or_past}
 use Rattle.tower_types.specs.declared.scalar.Scalar.{Scalar}
 use Rattle.tower_types.specs.declared.scalar.Scalar.TheVariants as scalar
 use Rattle.tower_types.specs.declared.scalar.BinOp.{BinOp}
-use Rattle.tower_types.specs.declared.scalar.BinOp.TheVariants as op
 use Rattle.tower_types.specs.declared.scalar.UnOp.{UnOp}
-use Rattle.tower_types.specs.declared.scalar.UnOp.TheVariants as un
 use Rattle.tower_syntax.specs.RawTree.{Id, RawStmt}
 use Rattle.tower_syntax.specs.RawView.{raw_stmts_of}
 use Rattle.tower_reader.specs.declared.table.Place.{Place}

@@ -1,8 +1,0 @@
-pub mod Wanted
-pub mod Offence
-pub mod Typing
-pub mod Body
-pub mod Outline
-pub mod Order
-pub mod File
-pub mod Numbered
