@@ -1,0 +1,13 @@
+pub mod Spans
+pub mod Lists
+pub mod InText
+pub mod Forms
+pub mod Kept
+pub mod InOrder
+pub mod LinkedOrder
+pub mod Meant
+pub mod Heights
+pub mod Scopes
+pub mod Counted
+pub mod Items
+pub mod Handlers
