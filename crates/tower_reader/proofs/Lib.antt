@@ -1,4 +1,6 @@
 pub mod Parts
+pub mod Counts
+pub mod Kept
 pub mod Runs
 pub mod Words
 pub mod Numbers

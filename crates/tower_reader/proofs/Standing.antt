@@ -26,13 +26,15 @@ use Rattle.tower_reader.specs.declared.reader.Stage.TheVariants as stage
 use Rattle.tower_reader.specs.declared.table.Place.TheVariants as place
 use Rattle.tower_reader.specs.declared.table.Row.TheVariants as row
 use Rattle.tower_reader.specs.Spelled.{byte_limit}
-use Rattle.tower_reader.specs.Machine.{Frame, bottom, run, clean, added_all}
+use Rattle.tower_reader.specs.Machine.{firsts, Frame, bottom, run, clean, added_all}
 use Rattle.tower_reader.specs.View.{frames_of}
 use Rattle.tower_reader.specs.Spelled.{Spells}
 use Rattle.tower_reader.specs.Faults.{IsFault}
 use Rattle.tower_reader.specs.Verdict.{fault_of, by_trees, by_tokens, outcome, verdict, Fails, Gives}
 use Rattle.tower_reader.specs.Standing.{Reads, StandsBy, StandsFor}
 use Rattle.tower_reader.proofs.Verdicts.{verdict_is}
+use Rattle.tower_reader.specs.Reading.{offences_in, parts_of}
+use Rattle.tower_reader.proofs.Kept.{found_kept}
 use Rattle.tower_reader.proofs.Runs.{run_append, run_spelled, all_known}
 
 pub reads_on : (r : Reader) (bs : List ℕ) → r.stage ≡ stage.Reads → StandsFor r bs → Reads r bs
@@ -89,7 +91,7 @@ goes_on r q bs b n old new e f t l s g o fs h =
 
 -- what the frames of a text say is what its trees say
 frames_say : (ts : Trees) → outcome (added_all ts bottom ∷ []) ≡ by_trees ts
-frames_say ts = ap (λ f. outcome (f ∷ [])) (all_known ts place.Nowhere 0 row.File 0 [] clean)
+frames_say ts = ap (λ f. outcome (f ∷ [])) (all_known ts place.Nowhere 0 row.File 0 [] clean) ∙ found_kept (firsts (offences_in row.File 0 ts)) (parts_of row.File 0 ts)
 
 pub within_verdict : (bs : List ℕ) (o : Option SexpFault) → length bs ≤ byte_limit → first_fault (marks_of bs) ≡ o → verdict bs ≡ by_tokens o (trees_spelled (tokens_of bs))
 within_verdict bs o l e =

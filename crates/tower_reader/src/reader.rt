@@ -4,14 +4,15 @@ ghost use Rattle.tower_syntax.specs.RawView.{raw_of};
 ghost use Rattle.tower_reader.specs.Spelled.{Spells};
 ghost use Rattle.tower_reader.specs.Faults.{IsFault};
 ghost use Rattle.tower_reader.specs.Machine.{bottom, opens, closes, enters, step, run};
-ghost use Rattle.tower_reader.specs.View.{frames_of};
-ghost use Rattle.tower_reader.specs.Verdict.{by_found, outcome, verdict, Gives};
+ghost use Rattle.tower_reader.specs.View.{all_seen, frames_of};
+ghost use Rattle.tower_reader.specs.Verdict.{by_parts, by_found, outcome, verdict, Gives};
 ghost use Rattle.tower_reader.specs.Standing.{StandsFor, HasFailed};
 
 use crate::children::tower;
 use crate::fault::{ReadFault, fault_of};
 use crate::found::Found;
 use crate::frame::Frame;
+use crate::part::Part;
 use std::alloc::Global;
 use tower_sexp::{Fed, Lexer, Token};
 use tower_syntax::Raw;
@@ -30,8 +31,8 @@ enum Stage {
     Failed,
 }
 
-/// Reads a text that comes in pieces. Beside the tree of what it has read it keeps the atom that has not ended, and for
-/// each unclosed list a frame, with a part for each child of that list, also where that is at fault.
+/// Reads a text that comes in pieces. Beside the tree of what it has read it keeps the atom that has not ended, and a
+/// frame of a fixed size for each unclosed list. Of a list in which something was found it keeps no tree.
 #[derive(Drop)]
 pub struct Reader {
     alloc: Global,
@@ -58,7 +59,7 @@ fn close(alloc: Global, frames: &mut Vec<Frame>) -> Result<(), NoMemory>
         match frames.pop() {
             Some(mut top) => {
                 let (part, found) = frame.closed(alloc)?;
-                top.take_in(part, found)?;
+                top.take_in(alloc, part, found)?;
                 frames.push(top)?;
             }
             None => frames.push(frame)?,
@@ -97,9 +98,20 @@ fn read_tokens(alloc: Global, frames: &mut Vec<Frame>, tokens: Vec<Token>) -> Re
     Ok(())
 }
 
-/// The tree, or the first fault of the forms.
-fn found_or(found: Found, raw: Raw) -> Result<Raw, ReadFault>
-    ensures { Gives result (by_found found (raw_of raw)) }
+/// The tree that the first part is.
+fn first_tower(alloc: Global, parts: Vec<Part>) -> Result<Raw, ReadFault>
+    ensures { Gives result (by_parts (all_seen parts.items)) }
+{
+    let mut parts = parts.into_iter();
+    match parts.next() {
+        None => Err(ReadFault::Empty),
+        Some(part) => Ok(tower(alloc, part)?),
+    }
+}
+
+/// The first fault of the forms, or else the tree.
+fn found_or(alloc: Global, found: Found, parts: Vec<Part>) -> Result<Raw, ReadFault>
+    ensures { Gives result (by_found found (all_seen parts.items)) }
 {
     if let Some(at) = found.form {
         return Err(ReadFault::Form { at });
@@ -110,7 +122,7 @@ fn found_or(found: Found, raw: Raw) -> Result<Raw, ReadFault>
     if let Some(at) = found.length {
         return Err(ReadFault::Length { at });
     }
-    Ok(raw)
+    first_tower(alloc, parts)
 }
 
 /// What is read where the text has ended and no list is unclosed.
@@ -120,14 +132,8 @@ fn read_frames(alloc: Global, mut frames: Vec<Frame>) -> Result<Raw, ReadFault>
     let Some(frame) = frames.pop() else {
         return Err(ReadFault::Empty);
     };
-    let (part, found) = frame.into_first();
-    match part {
-        None => Err(ReadFault::Empty),
-        Some(part) => {
-            let raw = tower(alloc, part)?;
-            found_or(found, raw)
-        }
-    }
+    let (parts, found) = frame.into_parts();
+    found_or(alloc, found, parts)
 }
 
 impl Reader {
