@@ -1,6 +1,7 @@
 pub mod Parts
 pub mod Counts
 pub mod Kept
+pub mod Lean
 pub mod Runs
 pub mod Words
 pub mod Numbers

@@ -26,7 +26,7 @@ use Rattle.tower_reader.specs.declared.reader.Stage.TheVariants as stage
 use Rattle.tower_reader.specs.declared.table.Place.TheVariants as place
 use Rattle.tower_reader.specs.declared.table.Row.TheVariants as row
 use Rattle.tower_reader.specs.Spelled.{byte_limit}
-use Rattle.tower_reader.specs.Machine.{firsts, Frame, bottom, run, clean, added_all}
+use Rattle.tower_reader.specs.Machine.{firsts, Frame, AllLean, bottom, run, clean, added_all}
 use Rattle.tower_reader.specs.View.{frames_of}
 use Rattle.tower_reader.specs.Spelled.{Spells}
 use Rattle.tower_reader.specs.Faults.{IsFault}
@@ -35,6 +35,7 @@ use Rattle.tower_reader.specs.Standing.{Reads, StandsBy, StandsFor}
 use Rattle.tower_reader.proofs.Verdicts.{verdict_is}
 use Rattle.tower_reader.specs.Reading.{offences_in, parts_of}
 use Rattle.tower_reader.proofs.Kept.{found_kept}
+use Rattle.tower_reader.proofs.Lean.{run_lean}
 use Rattle.tower_reader.proofs.Runs.{run_append, run_spelled, all_known}
 
 pub reads_on : (r : Reader) (bs : List ℕ) → r.stage ≡ stage.Reads → StandsFor r bs → Reads r bs
@@ -59,7 +60,7 @@ never_failed r bs e h = subst (λ s. StandsBy s r bs) e h
 
 -- no byte yet
 pub begun : (r : Reader) → r.stage ≡ stage.Reads → LexerStandsFor r.lexer [] → frames_of r.frames.items ≡ bottom ∷ [] → StandsFor r []
-begun r e s f = reading r [] e (record { lexer = s; frames = f; within = omega arith })
+begun r e s f = reading r [] e (record { lexer = s; frames = f; lean = subst AllLean (sym f) (λ k. refl, tt); within = omega arith })
 
 -- one byte more than the limit
 pub overflows : (r q : Reader) (bs : List ℕ) (b n : ℕ) → r.stage ≡ stage.Reads → q.stage ≡ stage.Long → ((bs : List ℕ) → LexerStandsFor r.lexer bs → n ≡ length bs) → byte_limit ≤ n → StandsFor r bs → StandsFor q (bs ++ b ∷ [])
@@ -86,6 +87,7 @@ goes_on r q bs b n old new e f t l s g o fs h =
     reading q (bs ++ b ∷ []) f (record {
       lexer = s bs k.lexer;
       frames = grown bs old new (whole_tokens (bs ++ b ∷ [])) (frames_of r.frames.items) (frames_of q.frames.items) (g bs k.lexer) o k.frames fs;
+      lean = subst AllLean (sym fs) (run_lean new (frames_of r.frames.items) k.lean);
       within = omega (arith, l, m, length-append bs (b ∷ []));
     })
 

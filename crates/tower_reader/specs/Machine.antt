@@ -1,5 +1,5 @@
 -- The reader of tokens: the lists that are unclosed, and what a token makes of them.
-use Rattle.std.specs.Prelude.{◌≡◌, ℕ, ◌+◌, min, List, [], ◌∷◌, ◌++◌, Bool, false, ◌&&◌, if◌then◌else◌, Option, Some, None, is_none}
+use Rattle.std.specs.Prelude.{◌≡◌, ℕ, ◌+◌, min, length, List, [], ◌∷◌, ◌++◌, Bool, false, ◌&&◌, if◌then◌else◌, Option, Some, None, is_none}
 use Rattle.tower_sexp.specs.declared.token.Token.{Token}
 use Rattle.tower_sexp.specs.declared.token.Token.TheVariants as token
 use Rattle.tower_sexp.specs.Trees.{Tree, atom, list, Trees, no_trees, tree}
@@ -63,6 +63,11 @@ pub record Frame : Type 0 where
   pub count : ℕ
   pub parts : List Part
   pub found : Found
+
+-- of no list in which something was found a part is kept
+abbrev pub AllLean : List Frame → Type 0
+AllLean [] = Unit {0}
+AllLean (f ∷ fs) = IsLean f.found (length f.parts) × AllLean fs
 
 abbrev pub opened : Place → ℕ → Frame
 opened p at = record { place = p; at = at; heading = heading.Fresh; count = 0; parts = []; found = clean }

@@ -6,13 +6,15 @@ use Rattle.tower_reader.specs.declared.reader.Reader.{Reader}
 use Rattle.tower_reader.specs.declared.reader.Stage.{Stage}
 use Rattle.tower_reader.specs.declared.reader.Stage.TheVariants as stage
 use Rattle.tower_reader.specs.Spelled.{byte_limit}
-use Rattle.tower_reader.specs.Machine.{bottom, run}
+use Rattle.tower_reader.specs.Machine.{AllLean, bottom, run}
 use Rattle.tower_reader.specs.View.{frames_of}
 
--- its lexer stands for the text, and its frames are what the whole tokens of the text make
+-- its lexer stands for the text, and its frames are what the whole tokens of the text make: one for the file and one for
+-- each list that is unclosed, which keeps no part of a child once something was found in that list
 pub record Reads (r : Reader) (bs : List ℕ) : Type 0 where
   pub lexer : LexerStandsFor r.lexer bs
   pub frames : frames_of r.frames.items ≡ run (whole_tokens bs) (bottom ∷ [])
+  pub lean : AllLean (frames_of r.frames.items)
   pub within : length bs ≤ byte_limit
 
 abbrev pub StandsBy : Stage → Reader → List ℕ → Type 0
