@@ -59,7 +59,7 @@ unfolding StandsFor
 never_failed r bs e h = subst (λ s. StandsBy s r bs) e h
 
 -- no byte yet
-pub begun : (r : Reader) → r.stage ≡ stage.Reads → LexerStandsFor r.lexer [] → frames_of r.frames.items ≡ bottom ∷ [] → StandsFor r []
+pub begun : (r : Reader) → r.stage ≡ stage.Reads → LexerStandsFor r.lexer [] → frames_of r.lists ≡ bottom ∷ [] → StandsFor r []
 begun r e s f = reading r [] e (record { lexer = s; frames = f; lean = subst AllLean (sym f) (λ k. refl, tt); within = omega arith })
 
 -- one byte more than the limit
@@ -79,15 +79,15 @@ pub goes_on : (r q : Reader) (bs : List ℕ) (b n : ℕ) (old new : List Token) 
     → ((bs : List ℕ) → LexerStandsFor r.lexer bs → n ≡ length bs) → n < byte_limit
     → ((bs : List ℕ) → LexerStandsFor r.lexer bs → LexerStandsFor q.lexer (bs ++ b ∷ []))
     → ((bs : List ℕ) → LexerStandsFor r.lexer bs → GrowsAlike old new (whole_tokens bs) (whole_tokens (bs ++ b ∷ [])))
-    → old ≡ [] → frames_of q.frames.items ≡ run new (frames_of r.frames.items)
+    → old ≡ [] → frames_of q.lists ≡ run new (frames_of r.lists)
     → StandsFor r bs → StandsFor q (bs ++ b ∷ [])
 goes_on r q bs b n old new e f t l s g o fs h =
     let k : Reads r bs = reads_on r bs e h in
     let m : n ≡ length bs = t bs k.lexer in
     reading q (bs ++ b ∷ []) f (record {
       lexer = s bs k.lexer;
-      frames = grown bs old new (whole_tokens (bs ++ b ∷ [])) (frames_of r.frames.items) (frames_of q.frames.items) (g bs k.lexer) o k.frames fs;
-      lean = subst AllLean (sym fs) (run_lean new (frames_of r.frames.items) k.lean);
+      frames = grown bs old new (whole_tokens (bs ++ b ∷ [])) (frames_of r.lists) (frames_of q.lists) (g bs k.lexer) o k.frames fs;
+      lean = subst AllLean (sym fs) (run_lean new (frames_of r.lists) k.lean);
       within = omega (arith, l, m, length-append bs (b ∷ []));
     })
 
@@ -119,22 +119,24 @@ token_verdict r bs f e h k = gives_token f (verdict bs) (λ n. let s = reads_on 
 -- at the end of a text
 pub end_verdict : (r : Reader) (bs : List ℕ) (old new : List Token) (gs : List Frame) → r.stage ≡ stage.Reads → StandsFor r bs
     → ((bs : List ℕ) → LexerStandsFor r.lexer bs → IsFaultless bs × GrowsAlike old new (whole_tokens bs) (tokens_of bs))
-    → old ≡ [] → gs ≡ run new (frames_of r.frames.items) → verdict bs ≡ outcome gs
+    → old ≡ [] → gs ≡ run new (frames_of r.lists) → verdict bs ≡ outcome gs
 end_verdict r bs old new gs e h g o fs =
     let t : Reads r bs = reads_on r bs e h in
     let k = g bs t.lexer in
-    let a : gs ≡ run (tokens_of bs) (bottom ∷ []) = grown bs old new (tokens_of bs) (frames_of r.frames.items) gs k.1 o t.frames fs in
+    let a : gs ≡ run (tokens_of bs) (bottom ∷ []) = grown bs old new (tokens_of bs) (frames_of r.lists) gs k.1 o t.frames fs in
     let b : run (tokens_of bs) (bottom ∷ []) ≡ added_all (trees_spelled (tokens_of bs)) bottom ∷ [] = run_spelled (faultless_spells bs k.0) bottom [] in
     within_verdict bs None t.within (faultless_is_computed bs k.0) ∙ sym (ap outcome (a ∙ b) ∙ frames_say (trees_spelled (tokens_of bs)))
 
 -- the same of an answer
 pub end_gives : (r : Reader) (bs : List ℕ) (old new : List Token) (gs : List Frame) (a : Result RawValue ReadFault) → r.stage ≡ stage.Reads → StandsFor r bs
     → ((bs : List ℕ) → LexerStandsFor r.lexer bs → IsFaultless bs × GrowsAlike old new (whole_tokens bs) (tokens_of bs))
-    → old ≡ [] → gs ≡ run new (frames_of r.frames.items) → Gives a (outcome gs) → Gives a (verdict bs)
+    → old ≡ [] → gs ≡ run new (frames_of r.lists) → Gives a (outcome gs) → Gives a (verdict bs)
 end_gives r bs old new gs a e h g o fs w = subst (Gives a) (sym (end_verdict r bs old new gs e h g o fs)) w
 
-pub longer : (r : Reader) (bs : List ℕ) (b : ℕ) → r.stage ≡ stage.Long → StandsFor r bs → StandsFor r (bs ++ b ∷ [])
-longer r bs b e h = long r (bs ++ b ∷ []) e (omega (arith, is_long r bs e h, length-append bs (b ∷ [])))
+-- a text that is longer than the limit stays so
+pub longer : (r : Reader) (bs front rest piece : List ℕ) → r.stage ≡ stage.Long → front ++ rest ≡ piece → StandsFor r (bs ++ front) → StandsFor r (bs ++ piece)
+longer r bs front rest piece e p h =
+    long r (bs ++ piece) e (omega (arith, is_long r (bs ++ front) e h, length-append bs front, length-append bs piece, length-append front rest, ap length p))
 
 -- an answer that is the verdict tells the tree, or the fault
 pub tells_tree : (self : Reader) (r : Result RawValue ReadFault) → ((bs : List ℕ) → StandsFor self bs → Gives r (verdict bs)) → IfOk r (λ raw. (bs : List ℕ) → StandsFor self bs → Spells bs (raw_of raw))

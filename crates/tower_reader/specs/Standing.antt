@@ -13,8 +13,8 @@ use Rattle.tower_reader.specs.View.{frames_of}
 -- each list that is unclosed, which keeps no part of a child once something was found in that list
 pub record Reads (r : Reader) (bs : List ℕ) : Type 0 where
   pub lexer : LexerStandsFor r.lexer bs
-  pub frames : frames_of r.frames.items ≡ run (whole_tokens bs) (bottom ∷ [])
-  pub lean : AllLean (frames_of r.frames.items)
+  pub frames : frames_of r.lists ≡ run (whole_tokens bs) (bottom ∷ [])
+  pub lean : AllLean (frames_of r.lists)
   pub within : length bs ≤ byte_limit
 
 abbrev pub StandsBy : Stage → Reader → List ℕ → Type 0
