@@ -1,5 +1,5 @@
 -- The tokens that the bytes of a text make whole.
-use Rattle.std.specs.Prelude.{◌≡◌, ℕ, ◌+◌, List, [], ◌++◌, length, nat_lt, Option, Some, None}
+use Rattle.std.specs.Prelude.{◌≡◌, ◌⊎◌, ℕ, ◌+◌, List, [], ◌∷◌, ◌++◌, length, nat_lt, Option, Some, None}
 use Rattle.std.specs.List.{filter}
 use Rattle.tower_sexp.specs.declared.fault.SexpFault.{SexpFault}
 use Rattle.tower_sexp.specs.declared.token.Token.{Token}
@@ -35,3 +35,7 @@ pub record GrowsAlike (old new before after : List Token) : Type 0 where
   pub more : List Token
   pub put : new ≡ old ++ more
   pub made : after ≡ before ++ more
+
+-- one list is another with an atom behind it, or nothing
+abbrev pub EndsInAtom : List Token → List Token → Type 0
+EndsInAtom old new = (new ≡ old) ⊎ ((at : ℕ) × (text : List ℕ) × (new ≡ old ++ token.Atom at text ∷ []))
