@@ -23,7 +23,7 @@ mixed true true false true true w = refl
 mixed true true true u v w = refl
 
 -- nothing was found in two nodes where nothing was found in either
-clean_merged : (a b : Found) → is_clean (merged a b) ≡ is_clean a && is_clean b
+pub clean_merged : (a b : Found) → is_clean (merged a b) ≡ is_clean a && is_clean b
 clean_merged a b = (λ i. (none_else a.form b.form i && none_else a.number b.number i) && none_else a.length b.length i) ∙ mixed (is_none a.form) (is_none a.number) (is_none a.length) (is_none b.form) (is_none b.number) (is_none b.length)
 
 before_by : (m c d : Bool) (ps : List Part) (p : Part) → m ≡ c && d → cond m (cond c ps [] ++ p ∷ []) [] ≡ cond m (ps ++ p ∷ []) []

@@ -9,7 +9,7 @@ use Rattle.tower_sexp.specs.Marks.{marks_of, tokens_of}
 use Rattle.tower_sexp.specs.Faults.{IsFaultless}
 use Rattle.tower_sexp.specs.Faults.{IsFault as IsTokenFault}
 use Rattle.tower_sexp.specs.FirstFault.{first_fault}
-use Rattle.tower_sexp.specs.WholeTokens.{whole_tokens, GrowsAlike}
+use Rattle.tower_sexp.specs.WholeTokens.{whole_tokens, GrowsAlike, EndsInAtom}
 use Rattle.tower_sexp.specs.Standing.{StandsFor as LexerStandsFor}
 use Rattle.tower_sexp.proofs.Firsts.{faultless_is_computed, fault_is_computed}
 use Rattle.tower_sexp.proofs.Spelled.{faultless_spells}
@@ -18,7 +18,7 @@ use Rattle.tower_sexp.specs.Trees.{Trees}
 use Rattle.tower_syntax.specs.RawTree.{Id, Raw}
 use Rattle.tower_syntax.specs.RawView.{raw_of}
 use Rattle.tower_syntax.specs.declared.raw.Raw.{Raw as RawValue}
-use Rattle.std.specs.Prelude.{IfOk, IfErr, ◌≢◌}
+use Rattle.std.specs.Prelude.{IfOk, IfErr, ◌≢◌, vec_capacity}
 use Rattle.tower_reader.specs.declared.fault.ReadFault.{ReadFault}
 use Rattle.tower_reader.specs.declared.fault.ReadFault.TheVariants as fault
 use Rattle.tower_reader.specs.declared.reader.Reader.{Reader}
@@ -26,8 +26,8 @@ use Rattle.tower_reader.specs.declared.reader.Stage.TheVariants as stage
 use Rattle.tower_reader.specs.declared.table.Place.TheVariants as place
 use Rattle.tower_reader.specs.declared.table.Row.TheVariants as row
 use Rattle.tower_reader.specs.Spelled.{byte_limit}
-use Rattle.tower_reader.specs.Machine.{firsts, Frame, AllLean, bottom, run, clean, added_all}
-use Rattle.tower_reader.specs.View.{frames_of}
+use Rattle.tower_reader.specs.Machine.{firsts, Frame, IsFile, AllLean, bottom, run, clean, added_all}
+use Rattle.tower_reader.specs.View.{frame_of, frames_of}
 use Rattle.tower_reader.specs.Spelled.{Spells}
 use Rattle.tower_reader.specs.Faults.{IsFault}
 use Rattle.tower_reader.specs.Verdict.{fault_of, by_trees, by_tokens, outcome, verdict, Fails, Gives}
@@ -36,6 +36,7 @@ use Rattle.tower_reader.proofs.Verdicts.{verdict_is}
 use Rattle.tower_reader.specs.Reading.{offences_in, parts_of}
 use Rattle.tower_reader.proofs.Kept.{found_kept}
 use Rattle.tower_reader.proofs.Lean.{run_lean}
+use Rattle.tower_reader.proofs.Told.{file_alone}
 use Rattle.tower_reader.proofs.Runs.{run_append, run_spelled, all_known}
 
 pub reads_on : (r : Reader) (bs : List ℕ) → r.stage ≡ stage.Reads → StandsFor r bs → Reads r bs
@@ -59,8 +60,8 @@ unfolding StandsFor
 never_failed r bs e h = subst (λ s. StandsBy s r bs) e h
 
 -- no byte yet
-pub begun : (r : Reader) → r.stage ≡ stage.Reads → LexerStandsFor r.lexer [] → frames_of r.lists ≡ bottom ∷ [] → StandsFor r []
-begun r e s f = reading r [] e (record { lexer = s; frames = f; lean = subst AllLean (sym f) (λ k. refl, tt); within = omega arith })
+pub begun : (r : Reader) → r.stage ≡ stage.Reads → LexerStandsFor r.lexer [] → frames_of r.lists ≡ bottom ∷ [] → 0 < vec_capacity r.tokens → StandsFor r []
+begun r e s f o = reading r [] e (record { lexer = s; frames = f; lean = subst AllLean (sym f) (λ k. refl, tt); room = o; within = omega arith })
 
 -- one byte more than the limit
 pub overflows : (r q : Reader) (bs : List ℕ) (b n : ℕ) → r.stage ≡ stage.Reads → q.stage ≡ stage.Long → ((bs : List ℕ) → LexerStandsFor r.lexer bs → n ≡ length bs) → byte_limit ≤ n → StandsFor r bs → StandsFor q (bs ++ b ∷ [])
@@ -79,15 +80,16 @@ pub goes_on : (r q : Reader) (bs : List ℕ) (b n : ℕ) (old new : List Token) 
     → ((bs : List ℕ) → LexerStandsFor r.lexer bs → n ≡ length bs) → n < byte_limit
     → ((bs : List ℕ) → LexerStandsFor r.lexer bs → LexerStandsFor q.lexer (bs ++ b ∷ []))
     → ((bs : List ℕ) → LexerStandsFor r.lexer bs → GrowsAlike old new (whole_tokens bs) (whole_tokens (bs ++ b ∷ [])))
-    → old ≡ [] → frames_of q.lists ≡ run new (frames_of r.lists)
+    → old ≡ [] → frames_of q.lists ≡ run new (frames_of r.lists) → vec_capacity r.tokens ≤ vec_capacity q.tokens
     → StandsFor r bs → StandsFor q (bs ++ b ∷ [])
-goes_on r q bs b n old new e f t l s g o fs h =
+goes_on r q bs b n old new e f t l s g o fs c h =
     let k : Reads r bs = reads_on r bs e h in
     let m : n ≡ length bs = t bs k.lexer in
     reading q (bs ++ b ∷ []) f (record {
       lexer = s bs k.lexer;
       frames = grown bs old new (whole_tokens (bs ++ b ∷ [])) (frames_of r.lists) (frames_of q.lists) (g bs k.lexer) o k.frames fs;
       lean = subst AllLean (sym fs) (run_lean new (frames_of r.lists) k.lean);
+      room = omega (arith, c, k.room);
       within = omega (arith, l, m, length-append bs (b ∷ []));
     })
 
@@ -116,6 +118,13 @@ gives_token token.NoMemory v h = tt
 pub token_verdict : (r : Reader) (bs : List ℕ) (f : SexpFault) → r.stage ≡ stage.Reads → StandsFor r bs → (f ≢ token.NoMemory → (bs : List ℕ) → LexerStandsFor r.lexer bs → IsTokenFault bs f) → Fails (fault_of f) (verdict bs)
 token_verdict r bs f e h k = gives_token f (verdict bs) (λ n. let s = reads_on r bs e h in within_verdict bs (Some f) s.within (fault_is_computed bs f (k n bs s.lexer)))
 
+-- a fault of the tokens is the verdict
+pub token_told : (r : Reader) (bs : List ℕ) (f : SexpFault) (g : ReadFault) → r.stage ≡ stage.Reads → StandsFor r bs → (f ≢ token.NoMemory → (bs : List ℕ) → LexerStandsFor r.lexer bs → IsTokenFault bs f) → f ≢ token.NoMemory → verdict bs ≡ Err g → fault_of f ≡ g
+token_told r bs f g e h k n v =
+    let s = reads_on r bs e h in
+    let w : verdict bs ≡ Err (fault_of f) = within_verdict bs (Some f) s.within (fault_is_computed bs f (k n bs s.lexer)) in
+    cc
+
 -- at the end of a text
 pub end_verdict : (r : Reader) (bs : List ℕ) (old new : List Token) (gs : List Frame) → r.stage ≡ stage.Reads → StandsFor r bs
     → ((bs : List ℕ) → LexerStandsFor r.lexer bs → IsFaultless bs × GrowsAlike old new (whole_tokens bs) (tokens_of bs))
@@ -127,6 +136,17 @@ end_verdict r bs old new gs e h g o fs =
     let b : run (tokens_of bs) (bottom ∷ []) ≡ added_all (trees_spelled (tokens_of bs)) bottom ∷ [] = run_spelled (faultless_spells bs k.0) bottom [] in
     within_verdict bs None t.within (faultless_is_computed bs k.0) ∙ sym (ap outcome (a ∙ b) ∙ frames_say (trees_spelled (tokens_of bs)))
 
+-- and the innermost list there
+pub end_file : (r : Reader) (bs : List ℕ) (old new : List Token) → r.stage ≡ stage.Reads → StandsFor r bs
+    → ((bs : List ℕ) → LexerStandsFor r.lexer bs → IsFaultless bs × GrowsAlike old new (whole_tokens bs) (tokens_of bs))
+    → old ≡ [] → EndsInAtom old new → IsFile (frame_of r.lists.top)
+end_file r bs old new e h g o a =
+    let t : Reads r bs = reads_on r bs e h in
+    let k = g bs t.lexer in
+    let b : run new (frames_of r.lists) ≡ run (tokens_of bs) (bottom ∷ []) = grown bs old new (tokens_of bs) (frames_of r.lists) (run new (frames_of r.lists)) k.1 o t.frames refl in
+    let c : run (tokens_of bs) (bottom ∷ []) ≡ added_all (trees_spelled (tokens_of bs)) bottom ∷ [] = run_spelled (faultless_spells bs k.0) bottom [] in
+    file_alone (whole_tokens bs) new (frame_of r.lists.top) _ _ t.frames (subst (λ ts. EndsInAtom ts new) o a) (b ∙ c)
+
 -- the same of an answer
 pub end_gives : (r : Reader) (bs : List ℕ) (old new : List Token) (gs : List Frame) (a : Result RawValue ReadFault) → r.stage ≡ stage.Reads → StandsFor r bs
     → ((bs : List ℕ) → LexerStandsFor r.lexer bs → IsFaultless bs × GrowsAlike old new (whole_tokens bs) (tokens_of bs))
@@ -137,6 +157,9 @@ end_gives r bs old new gs a e h g o fs w = subst (Gives a) (sym (end_verdict r b
 pub longer : (r : Reader) (bs front rest piece : List ℕ) → r.stage ≡ stage.Long → front ++ rest ≡ piece → StandsFor r (bs ++ front) → StandsFor r (bs ++ piece)
 longer r bs front rest piece e p h =
     long r (bs ++ piece) e (omega (arith, is_long r (bs ++ front) e h, length-append bs front, length-append bs piece, length-append front rest, ap length p))
+
+pub never_fails : (r : Reader) (bs : List ℕ) (f : ReadFault) → r.stage ≡ stage.Failed → StandsFor r bs → fault.NoMemory ≡ f
+never_fails r bs f e h = absurd (never_failed r bs e h)
 
 -- an answer that is the verdict tells the tree, or the fault
 pub tells_tree : (self : Reader) (r : Result RawValue ReadFault) → ((bs : List ℕ) → StandsFor self bs → Gives r (verdict bs)) → IfOk r (λ raw. (bs : List ℕ) → StandsFor self bs → Spells bs (raw_of raw))

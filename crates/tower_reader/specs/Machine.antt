@@ -76,6 +76,9 @@ opened p at = record { place = p; at = at; heading = heading.Fresh; count = 0; p
 abbrev pub bottom : Frame
 bottom = record { place = place.Nowhere; at = 0; heading = heading.Known row.File; count = 0; parts = []; found = clean }
 
+abbrev pub IsFile : Frame → Type 0
+IsFile f = f.heading ≡ heading.Known row.File
+
 abbrev pub slot_by : Heading → ℕ → Place
 slot_by heading.Fresh n = place.Nowhere
 slot_by heading.Unknown n = place.Nowhere

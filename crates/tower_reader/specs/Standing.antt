@@ -1,5 +1,5 @@
 -- The text that a reader stands for.
-use Rattle.std.specs.Prelude.{◌≡◌, ◌<◌, ◌≤◌, ℕ, List, [], ◌∷◌, length}
+use Rattle.std.specs.Prelude.{◌≡◌, ◌<◌, ◌≤◌, ℕ, List, [], ◌∷◌, length, vec_capacity}
 use Rattle.tower_sexp.specs.Standing.{StandsFor as LexerStandsFor}
 use Rattle.tower_sexp.specs.WholeTokens.{whole_tokens}
 use Rattle.tower_reader.specs.declared.reader.Reader.{Reader}
@@ -10,11 +10,13 @@ use Rattle.tower_reader.specs.Machine.{AllLean, bottom, run}
 use Rattle.tower_reader.specs.View.{frames_of}
 
 -- its lexer stands for the text, and its frames are what the whole tokens of the text make: one for the file and one for
--- each list that is unclosed, which keeps no part of a child once something was found in that list
+-- each list that is unclosed, which keeps no part of a child once something was found in that list. There is room for the
+-- token that the end may make whole.
 pub record Reads (r : Reader) (bs : List ℕ) : Type 0 where
   pub lexer : LexerStandsFor r.lexer bs
   pub frames : frames_of r.lists ≡ run (whole_tokens bs) (bottom ∷ [])
   pub lean : AllLean (frames_of r.lists)
+  pub room : 0 < vec_capacity r.tokens
   pub within : length bs ≤ byte_limit
 
 abbrev pub StandsBy : Stage → Reader → List ℕ → Type 0

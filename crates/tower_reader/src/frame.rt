@@ -1,6 +1,6 @@
 //! A list that is partly read.
-ghost use Rattle.std.specs.Prelude.{◌≡◌, ◌+◌, ◌++◌, [], ◌∷◌, IfOk, OnOk, vec_len};
-ghost use Rattle.tower_reader.specs.Machine.{IsLean, opened, bottom, slot, headed, merged, kept, kept_part, counted, taken_in, entered, closed};
+ghost use Rattle.std.specs.Prelude.{◌≡◌, ◌+◌, ◌++◌, [], ◌∷◌, false, IfOk, IsOk, OnOk, vec_len};
+ghost use Rattle.tower_reader.specs.Machine.{IsLean, IsFile, is_clean, opened, bottom, slot, headed, merged, kept, kept_part, counted, taken_in, entered, closed};
 ghost use Rattle.tower_reader.specs.Part.{build};
 
 use crate::atom::{atom_found, atom_part};
@@ -90,6 +90,7 @@ impl Frame {
         ensures count { OnOk result (self.new.count ≡ counted (self.old.count + 1)) }
         ensures parts { OnOk result (all_seen self.new.parts.items ≡ kept (merged self.old.found found) (all_seen self.old.parts.items ++ seen part ∷ [])) }
         ensures found { OnOk result (self.new.found ≡ merged self.old.found found) }
+        ensures told { is_clean found ≡ false → IsOk result }
     {
         self.count = self.count.saturating_add(1);
         self.found = self.found.merged(found);
@@ -102,9 +103,10 @@ impl Frame {
         Ok(())
     }
 
-    /// Takes a child that is whole.
+    /// Takes a child that is whole. It takes no memory where something was found in it.
     pub fn take_in(&mut self, alloc: Global, part: Part, found: Found) -> Result<(), NoMemory>
-        ensures { OnOk result (frame_of self.new ≡ taken_in (seen part) found (frame_of self.old)) }
+        ensures taken { OnOk result (frame_of self.new ≡ taken_in (seen part) found (frame_of self.old)) }
+        ensures told { is_clean found ≡ false → IsOk result }
     {
         match self.heading {
             Heading::Known(_) => self.add(alloc, part, found),
@@ -116,9 +118,10 @@ impl Frame {
         }
     }
 
-    /// Takes an atom: the head, or a child.
+    /// Takes an atom: the head, or a child. In the file it takes no memory, since no atom may stand there.
     pub fn enter(&mut self, alloc: Global, at: u32, text: &[u8]) -> Result<(), NoMemory>
-        ensures { OnOk result (frame_of self.new ≡ entered at text.now (frame_of self.old)) }
+        ensures entered { OnOk result (frame_of self.new ≡ entered at text.now (frame_of self.old)) }
+        ensures told { IsFile (frame_of self.old) → IsOk result }
     {
         match self.heading {
             Heading::Fresh => {

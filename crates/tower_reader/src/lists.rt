@@ -1,8 +1,10 @@
 //! The lists that are unclosed, and what tokens make of them.
-ghost use Rattle.std.specs.Prelude.{◌≡◌, ◌∷◌, [], OnOk};
+ghost use Rattle.std.specs.Prelude.{◌≡◌, ℕ, List, ◌∷◌, [], OnOk, IsOk};
+ghost use Rattle.tower_sexp.specs.WholeTokens.{EndsInAtom};
 ghost use Rattle.tower_syntax.specs.RawView.{raw_of};
-ghost use Rattle.tower_reader.specs.Machine.{bottom, opens, closes, enters, step, run};
-ghost use Rattle.tower_reader.specs.View.{all_seen, frames_of};
+ghost use Rattle.tower_reader.specs.Machine.{IsFile, bottom, opens, closes, enters, step, run};
+ghost use Rattle.tower_reader.specs.View.{all_seen, frame_of, frames_of};
+ghost use Rattle.tower_reader.specs.declared.fault.ReadFault.{ReadFault};
 ghost use Rattle.tower_reader.specs.Verdict.{by_parts, by_found, outcome, Gives};
 
 use crate::children::tower;
@@ -28,7 +30,8 @@ pub(crate) struct Lists {
 
 /// The tree that the first part is.
 fn first_tower(alloc: Global, parts: Vec<Part>) -> Result<Raw, ReadFault>
-    ensures { Gives result (by_parts (all_seen parts.items)) }
+    ensures gives { Gives result (by_parts (all_seen parts.items)) }
+    ensures told { (f : ReadFault) → by_parts (all_seen parts.items) ≡ Err f → result ≡ Err f }
 {
     let mut parts = parts.into_iter();
     match parts.next() {
@@ -37,9 +40,10 @@ fn first_tower(alloc: Global, parts: Vec<Part>) -> Result<Raw, ReadFault>
     }
 }
 
-/// The first fault of the forms, or else the tree.
+/// The first fault of the forms, or else the tree. A fault takes no memory.
 fn found_or(alloc: Global, found: Found, parts: Vec<Part>) -> Result<Raw, ReadFault>
-    ensures { Gives result (by_found found (all_seen parts.items)) }
+    ensures gives { Gives result (by_found found (all_seen parts.items)) }
+    ensures told { (f : ReadFault) → by_found found (all_seen parts.items) ≡ Err f → result ≡ Err f }
 {
     if let Some(at) = found.form {
         return Err(ReadFault::Form { at });
@@ -87,7 +91,8 @@ impl Lists {
     }
 
     fn enter(&mut self, at: u32, text: &[u8]) -> Result<(), NoMemory>
-        ensures { OnOk result (frames_of self.new ≡ enters at text.now (frames_of self.old)) }
+        ensures entered { OnOk result (frames_of self.new ≡ enters at text.now (frames_of self.old)) }
+        ensures told { IsFile (frame_of self.old.top) → IsOk result }
     {
         self.top.enter(self.alloc, at, text)?;
         Ok(())
@@ -95,7 +100,8 @@ impl Lists {
 
     #[inline(never)]
     fn read_token(&mut self, token: &Token) -> Result<(), NoMemory>
-        ensures { OnOk result (frames_of self.new ≡ step token.now (frames_of self.old)) }
+        ensures read { OnOk result (frames_of self.new ≡ step token.now (frames_of self.old)) }
+        ensures told { (at : ℕ) (text : List ℕ) → token.now ≡ Token.Atom at text → IsFile (frame_of self.old.top) → IsOk result }
     {
         match token {
             Token::Left { at } => self.open(*at),
@@ -104,8 +110,10 @@ impl Lists {
         }
     }
 
+    /// Takes tokens. An atom of the file takes no memory.
     pub fn read_tokens(&mut self, tokens: &[Token]) -> Result<(), NoMemory>
-        ensures { OnOk result (frames_of self.new ≡ run tokens.now (frames_of self.old)) }
+        ensures read { OnOk result (frames_of self.new ≡ run tokens.now (frames_of self.old)) }
+        ensures told { EndsInAtom [] tokens.now → IsFile (frame_of self.old.top) → IsOk result }
     {
         for token in tokens {
             self.read_token(token)?;
@@ -113,9 +121,10 @@ impl Lists {
         Ok(())
     }
 
-    /// What is read where the text has ended and no list is unclosed.
+    /// What is read where the text has ended and no list is unclosed. A fault takes no memory.
     pub fn finish(self) -> Result<Raw, ReadFault>
-        ensures { Gives result (outcome (frames_of self)) }
+        ensures gives { Gives result (outcome (frames_of self)) }
+        ensures told { (f : ReadFault) → outcome (frames_of self) ≡ Err f → result ≡ Err f }
     {
         let Lists { alloc, top, .. } = self;
         let (parts, found) = top.into_parts();

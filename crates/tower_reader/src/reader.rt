@@ -3,6 +3,7 @@ ghost use Rattle.std.specs.Prelude.{◌≡◌, ◌≢◌, ℕ, ◌++◌, ◌∷�
 ghost use Rattle.tower_syntax.specs.RawView.{raw_of};
 ghost use Rattle.tower_reader.specs.Spelled.{Spells};
 ghost use Rattle.tower_reader.specs.Faults.{IsFault};
+ghost use Rattle.tower_reader.specs.declared.fault.ReadFault.{ReadFault};
 ghost use Rattle.tower_reader.specs.Verdict.{verdict, Gives};
 ghost use Rattle.tower_reader.specs.Standing.{StandsFor, HasFailed};
 
@@ -113,7 +114,8 @@ impl Reader {
     /// The verdict on the text, where it is within the limit.
     fn end(self) -> Result<Raw, ReadFault>
         requires { self.stage ≡ Stage.Reads }
-        ensures { (bs : List ℕ) → StandsFor self bs → Gives result (verdict bs) }
+        ensures gives { (bs : List ℕ) → StandsFor self bs → Gives result (verdict bs) }
+        ensures told { (bs : List ℕ) (f : ReadFault) → StandsFor self bs → verdict bs ≡ Err f → result ≡ Err f }
     {
         let Reader {
             lexer,
@@ -133,6 +135,7 @@ impl Reader {
 
     fn verdict(self) -> Result<Raw, ReadFault>
         ensures gives { (bs : List ℕ) → StandsFor self bs → Gives result (verdict bs) }
+        ensures told { (bs : List ℕ) (f : ReadFault) → StandsFor self bs → verdict bs ≡ Err f → result ≡ Err f }
         ensures failed { HasFailed self → result ≡ Err ReadFault.NoMemory }
     {
         match self.stage {
@@ -149,6 +152,9 @@ impl Reader {
         // For each text for which it stands:
         ensures ok { IfOk result (λ raw. (bs : List ℕ) → StandsFor self bs → Spells bs (raw_of raw)) }
         ensures fault { IfErr result (λ f. f ≢ ReadFault.NoMemory → (bs : List ℕ) → StandsFor self bs → IsFault bs f) }
+
+        // A text's fault is told without memory.
+        ensures told { (bs : List ℕ) (f : ReadFault) → StandsFor self bs → IsFault bs f → result ≡ Err f }
         ensures failed { HasFailed self → result ≡ Err ReadFault.NoMemory }
     {
         self.verdict()

@@ -1,4 +1,4 @@
-use Rattle.std.proofs.Common.{refl, ap, ◌∙◌}
+use Rattle.std.proofs.Common.{refl, ap, ◌∙◌, arith}
 use Rattle.tower_reader.specs.Machine.{run}
 use Rattle.tower_reader.specs.View.{frames_of}
 use Rattle.tower_reader.proofs.Standing.{overflows, goes_on}
@@ -9,5 +9,5 @@ returns-then-taken-ge-BYTE_LIMIT c = λ bs h. overflows c.args.self.now _ bs c.a
 
 pub returns-in_ok-read_tokens-in-Taken : goal.returns-in_ok-read_tokens-in-Taken
 returns-in_ok-read_tokens-in-Taken c = λ bs h.
-    let fs = c.in_ok-read_tokens-in-Taken.ensures ∙ ap (λ ts. run ts (frames_of c.args.self.now.lists)) c.as_slice.ensures.value in
-    goes_on c.args.self.now _ bs c.args.byte c.taken.result _ _ c.requires c.requires c.taken.ensures.text c.if-taken-ge-BYTE_LIMIT.false (c.in-Taken.ensures.stands refl) (c.in-Taken.ensures.put refl) c.clear.ensures.items fs h
+    let fs = c.in_ok-read_tokens-in-Taken.ensures.read ∙ ap (λ ts. run ts (frames_of c.args.self.now.lists)) c.as_slice.ensures.value in
+    goes_on c.args.self.now _ bs c.args.byte c.taken.result _ _ c.requires c.requires c.taken.ensures.text c.if-taken-ge-BYTE_LIMIT.false (c.in-Taken.ensures.stands refl) (c.in-Taken.ensures.put refl) c.clear.ensures.items fs (omega (arith, c.clear.ensures.capacity, c.in-Taken.ensures.capacity)) h
