@@ -61,8 +61,9 @@ above n l = omega arith
 pub place_counted : (r : Row) (n : ℕ) → place_at r (counted n) ≡ place_at r n
 place_counted r n =
     elim (cases_lt 255 n) [
-      inl l ↦ get_or_past (rule r).places (counted n) (or_nowhere (rule r).more) (omega (arith, few r, above n l)) ∙ sym (get_or_past (rule r).places n (or_nowhere (rule r).more) (omega (arith, few r)))
-    | inr l ↦ ap (place_at r) (below n l) ]
+      | inl l ↦ get_or_past (rule r).places (counted n) (or_nowhere (rule r).more) (omega (arith, few r, above n l)) ∙ sym (get_or_past (rule r).places n (or_nowhere (rule r).more) (omega (arith, few r)))
+      | inr l ↦ ap (place_at r) (below n l)
+    ]
 
 fits_above : (least n : ℕ) (more : Bool) → least ≤ 4 → 4 < n → nat_le least n && (nat_le n least || more) ≡ more
 fits_above least n more l m =
@@ -73,5 +74,6 @@ fits_above least n more l m =
 pub fits_counted : (r : Row) (n : ℕ) → count_fits r (counted n) ≡ count_fits r n
 fits_counted r n =
     elim (cases_lt 255 n) [
-      inl l ↦ fits_above (length (rule r).places) (counted n) (has_more (rule r).more) (few r) (omega (arith, above n l)) ∙ sym (fits_above (length (rule r).places) n (has_more (rule r).more) (few r) (omega arith))
-    | inr l ↦ ap (count_fits r) (below n l) ]
+      | inl l ↦ fits_above (length (rule r).places) (counted n) (has_more (rule r).more) (few r) (omega (arith, above n l)) ∙ sym (fits_above (length (rule r).places) n (has_more (rule r).more) (few r) (omega arith))
+      | inr l ↦ ap (count_fits r) (below n l)
+    ]

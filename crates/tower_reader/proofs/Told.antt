@@ -75,5 +75,6 @@ pub file_alone : (us ts : List Token) (f x : Frame) (fs : List Frame) → f ∷ 
 file_alone us ts f x fs e a h =
     let b : Based f fs = subst AllBased (sym e) (run_based us (bottom ∷ []) refl) in
     elim a [
-      inl k ↦ alone f f x fs b (sym (ap (λ ts. run ts (f ∷ fs)) k) ∙ h)
-    | inr k ↦ alone f (entered k.0 k.1 f) x fs b (sym (ap (λ ts. run ts (f ∷ fs)) k.2) ∙ h) ]
+      | inl k ↦ alone f f x fs b (sym (ap (λ ts. run ts (f ∷ fs)) k) ∙ h)
+      | inr k ↦ alone f (entered k.0 k.1 f) x fs b (sym (ap (λ ts. run ts (f ∷ fs)) k.2) ∙ h)
+    ]

@@ -44,10 +44,7 @@ const FAULTY: [(&[u8], ReadFault); 25] = [
     (b"() () ()", ReadFault::Form { at: 0 }),
     (b"(tower a) () ()", ReadFault::Form { at: 10 }),
     // What was found in a list without a row is not told.
-    (
-        b"(tower a (init b 256 (c)) (d))",
-        ReadFault::Form { at: 9 },
-    ),
+    (b"(tower a (init b 256 (c)) (d))", ReadFault::Form { at: 9 }),
     // The fields of a record.
     (b"(tower a (record r))", ReadFault::Form { at: 9 }),
     (
