@@ -2,6 +2,7 @@ pub mod Parts
 pub mod Counts
 pub mod Kept
 pub mod Lean
+pub mod Nested
 pub mod Told
 pub mod Runs
 pub mod Words

@@ -1,5 +1,5 @@
 -- A reader stands for the text that it has taken.
-use Rattle.std.proofs.Common.{◌≡◌, ℕ, ◌<◌, ◌≤◌, length, List, [], ◌∷◌, ◌++◌, true, false, refl, ap, sym, ◌∙◌, subst, arith, cond, nat_lt, Option, Some, None, Result, Ok, Err}
+use Rattle.std.proofs.Common.{◌≡◌, ℕ, ◌+◌, ◌<◌, ◌≤◌, length, List, [], ◌∷◌, ◌++◌, true, false, refl, ap, sym, ◌∙◌, subst, arith, cond, nat_lt, Option, Some, None, Result, Ok, Err}
 use Rattle.std.proofs.lemmas.List.{length-append}
 use Rattle.std.proofs.lemmas.Bool.{lt-ltb, le-ltb}
 use Rattle.tower_sexp.specs.declared.fault.SexpFault.{SexpFault}
@@ -9,8 +9,8 @@ use Rattle.tower_sexp.specs.Marks.{marks_of, tokens_of}
 use Rattle.tower_sexp.specs.Faults.{IsFaultless}
 use Rattle.tower_sexp.specs.Faults.{IsFault as IsTokenFault}
 use Rattle.tower_sexp.specs.FirstFault.{first_fault}
-use Rattle.tower_sexp.specs.WholeTokens.{whole_tokens, GrowsAlike, EndsInAtom}
-use Rattle.tower_sexp.specs.Standing.{StandsFor as LexerStandsFor}
+use Rattle.tower_sexp.specs.WholeTokens.{whole_tokens, GrowsAlike, EndsInAtom, depth_behind}
+use Rattle.tower_sexp.specs.Standing.{StandsFor as LexerStandsFor, count_unclosed}
 use Rattle.tower_sexp.proofs.Firsts.{faultless_is_computed, fault_is_computed}
 use Rattle.tower_sexp.proofs.Spelled.{faultless_spells}
 use Rattle.tower_sexp.specs.Nesting.{trees_spelled}
@@ -36,6 +36,7 @@ use Rattle.tower_reader.proofs.Verdicts.{verdict_is}
 use Rattle.tower_reader.specs.Reading.{offences_in, parts_of}
 use Rattle.tower_reader.proofs.Kept.{found_kept}
 use Rattle.tower_reader.proofs.Lean.{run_lean}
+use Rattle.tower_reader.proofs.Nested.{run_nested}
 use Rattle.tower_reader.proofs.Told.{file_alone}
 use Rattle.tower_reader.proofs.Runs.{run_append, run_spelled, all_known}
 
@@ -60,8 +61,8 @@ unfolding StandsFor
 never_failed r bs e h = subst (λ s. StandsBy s r bs) e h
 
 -- no byte yet
-pub begun : (r : Reader) → r.stage ≡ stage.Reads → LexerStandsFor r.lexer [] → frames_of r.lists ≡ bottom ∷ [] → 0 < vec_capacity r.tokens → StandsFor r []
-begun r e s f o = reading r [] e (record { lexer = s; frames = f; lean = subst AllLean (sym f) (λ k. refl, tt); room = o; within = omega arith })
+pub begun : (r : Reader) → r.stage ≡ stage.Reads → LexerStandsFor r.lexer [] → frames_of r.lists ≡ bottom ∷ [] → count_unclosed r.lexer ≡ 0 → 0 < vec_capacity r.tokens → StandsFor r []
+begun r e s f n o = reading r [] e (record { lexer = s; frames = f; nested = omega (arith, ap length f, n); few = omega (arith, n); lean = subst AllLean (sym f) (λ k. refl, tt); room = o; within = omega arith })
 
 -- one byte more than the limit
 pub overflows : (r q : Reader) (bs : List ℕ) (b n : ℕ) → r.stage ≡ stage.Reads → q.stage ≡ stage.Long → ((bs : List ℕ) → LexerStandsFor r.lexer bs → n ≡ length bs) → byte_limit ≤ n → StandsFor r bs → StandsFor q (bs ++ b ∷ [])
@@ -80,14 +81,19 @@ pub goes_on : (r q : Reader) (bs : List ℕ) (b n : ℕ) (old new : List Token) 
     → ((bs : List ℕ) → LexerStandsFor r.lexer bs → n ≡ length bs) → n < byte_limit
     → ((bs : List ℕ) → LexerStandsFor r.lexer bs → LexerStandsFor q.lexer (bs ++ b ∷ []))
     → ((bs : List ℕ) → LexerStandsFor r.lexer bs → GrowsAlike old new (whole_tokens bs) (whole_tokens (bs ++ b ∷ [])))
-    → old ≡ [] → frames_of q.lists ≡ run new (frames_of r.lists) → vec_capacity r.tokens ≤ vec_capacity q.tokens
+    → old ≡ [] → frames_of q.lists ≡ run new (frames_of r.lists)
+    → (count_unclosed r.lexer ≤ 256 → count_unclosed q.lexer ≤ 256)
+    → (old ≡ [] → count_unclosed r.lexer ≤ 256 → count_unclosed q.lexer ≡ depth_behind (count_unclosed r.lexer) new)
+    → vec_capacity r.tokens ≤ vec_capacity q.tokens
     → StandsFor r bs → StandsFor q (bs ++ b ∷ [])
-goes_on r q bs b n old new e f t l s g o fs c h =
+goes_on r q bs b n old new e f t l s g o fs u d c h =
     let k : Reads r bs = reads_on r bs e h in
     let m : n ≡ length bs = t bs k.lexer in
     reading q (bs ++ b ∷ []) f (record {
       lexer = s bs k.lexer;
       frames = grown bs old new (whole_tokens (bs ++ b ∷ [])) (frames_of r.lists) (frames_of q.lists) (g bs k.lexer) o k.frames fs;
+      nested = ap length fs ∙ run_nested new (frames_of r.lists) (count_unclosed r.lexer) k.nested ∙ ap (λ x. x + 1) (sym (d o k.few));
+      few = u k.few;
       lean = subst AllLean (sym fs) (run_lean new (frames_of r.lists) k.lean);
       room = omega (arith, c, k.room);
       within = omega (arith, l, m, length-append bs (b ∷ []));

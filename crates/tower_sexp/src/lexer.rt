@@ -4,8 +4,8 @@ ghost use Rattle.tower_sexp.specs.declared.fault.SexpFault.{SexpFault};
 ghost use Rattle.tower_sexp.specs.Marks.{tokens_of};
 ghost use Rattle.tower_sexp.specs.Faults.{IsFault, IsFaultless};
 ghost use Rattle.tower_sexp.specs.Lexing.{state_of, is_nil, atom_ended, advanced, lengthened, passed, bracketed, opened, open_put, closed_by, close_put, stopped_by, atom_put, next_state, next_put};
-ghost use Rattle.tower_sexp.specs.WholeTokens.{whole_tokens, GrowsAlike, EndsInAtom};
-ghost use Rattle.tower_sexp.specs.Standing.{StandsFor, HasFailed, count_taken};
+ghost use Rattle.tower_sexp.specs.WholeTokens.{whole_tokens, GrowsAlike, EndsInAtom, depth_behind};
+ghost use Rattle.tower_sexp.specs.Standing.{StandsFor, HasFailed, count_taken, count_unclosed};
 
 use crate::byte::{Class, class_in};
 use crate::fault::SexpFault;
@@ -50,6 +50,7 @@ impl Lexer {
     pub fn new(alloc: Global) -> Lexer
         ensures taken { count_taken result ≡ 0 }
         ensures stands { StandsFor result [] }
+        ensures nested { count_unclosed result ≡ 0 }
     {
         Lexer {
             alloc,
@@ -233,6 +234,10 @@ impl Lexer {
         ensures stands { result ≡ Fed.Taken → (bs : List ℕ) → StandsFor self.old bs → StandsFor self.new (bs ++ byte ∷ []) }
         ensures put { result ≡ Fed.Taken → (bs : List ℕ) → StandsFor self.old bs → GrowsAlike out.old.items out.new.items (whole_tokens bs) (whole_tokens (bs ++ byte ∷ [])) }
         ensures counted { result ≡ Fed.Taken → count_taken self.new ≡ count_taken self.old + 1 }
+
+        // The lists that are unclosed are at most 256, and as many as the tokens say.
+        ensures few { result ≡ Fed.Taken → count_unclosed self.old ≤ 256 → count_unclosed self.new ≤ 256 }
+        ensures nested { result ≡ Fed.Taken → out.old.items ≡ [] → count_unclosed self.old ≤ 256 → count_unclosed self.new ≡ depth_behind (count_unclosed self.old) out.new.items }
 
         // Once memory was wanting it fails for good.
         ensures fails { result ≡ Fed.NoMemory → HasFailed self.new }
