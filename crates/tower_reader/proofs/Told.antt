@@ -1,5 +1,5 @@
 -- Where a text with a fault ends, the innermost list is the file, and no memory is wanted.
-use Rattle.std.proofs.Common.{◌≡◌, ℕ, zero, suc, List, [], ◌∷◌, ◌++◌, Bool, true, false, ◌&&◌, inl, inr, refl, ap, sym, ◌∙◌, subst}
+use Rattle.std.proofs.Common.{◌≡◌, ℕ, zero, suc, List, [], ◌∷◌, Bool, true, false, ◌&&◌, inl, inr, refl, ap, sym, ◌∙◌, subst}
 use Rattle.tower_sexp.specs.declared.token.Token.{Token}
 use Rattle.tower_sexp.specs.declared.token.Token.TheVariants as token
 use Rattle.tower_sexp.specs.WholeTokens.{EndsInAtom}
@@ -12,7 +12,7 @@ use Rattle.tower_reader.specs.declared.table.Row.TheVariants as row
 use Rattle.tower_reader.specs.Table.{atoms_at, place_at}
 use Rattle.tower_reader.specs.Part.{Part}
 use Rattle.tower_reader.specs.Reading.{atom_offences}
-use Rattle.tower_reader.specs.Machine.{merged, firsts, is_clean, Frame, IsFile, bottom, slot, slot_by, taken_by, taken_in, entered_by, entered, step, run}
+use Rattle.tower_reader.specs.Machine.{merged, firsts, is_clean, Frame, IsFile, bottom, slot, slot_by, taken_by, entered_by, entered, step, run}
 use Rattle.tower_reader.proofs.Kept.{clean_merged}
 
 file_atoms : (n : ℕ) → atoms_at (place_at row.File n) ≡ atoms.None

@@ -1,4 +1,4 @@
-use Rattle.std.proofs.Common.{◌≡◌, ◌<◌, [], sym, subst, ap, ◌∙◌, arith, Err, vec_len, vec_capacity}
+use Rattle.std.proofs.Common.{◌<◌, [], sym, subst, ap, ◌∙◌, arith, Err, vec_len, vec_capacity}
 use Rattle.std.proofs.lemmas.Bool.{false≢true}
 use Rattle.tower_sexp.specs.WholeTokens.{EndsInAtom}
 use Rattle.tower_reader.specs.Machine.{run}
