@@ -1,4 +1,9 @@
 pub mod Parts
+pub mod Counts
+pub mod Kept
+pub mod Lean
+pub mod Nested
+pub mod Told
 pub mod Runs
 pub mod Words
 pub mod Numbers

@@ -51,10 +51,6 @@ absent_by low high w (Some n) e h = let k = number_is low high n w e in absurd (
 pub number_absent : (low high : ℕ) (w : List ℕ) → ((n : ℕ) → low ≤ n → n ≤ high → w ≢ decimal n) → number_in low high w ≡ None
 number_absent low high w h = absent_by low high w (number_in low high w) refl h
 
--- no number of the range has a text that is read as none
-pub number_none : (low high n : ℕ) (w : List ℕ) → n < 2 ^ 64 → IsWithin low high n → number_in low high w ≡ None → w ≢ decimal n
-number_none low high n w small h none e = let s = number_of low high n w small h e in cc
-
 -- what is told of a number within bounds says what it is
 pub within_is : (low high : ℕ) (w : List ℕ) (r : Option ℕ) → high < 2 ^ 64 → MatchOption r ((n : ℕ) → low ≤ n → n ≤ high → w ≢ decimal n) (λ n. w ≡ decimal n) → MatchOption r (Unit {0}) (λ n. low ≤ n) → MatchOption r (Unit {0}) (λ n. n ≤ high) → r ≡ number_in low high w
 within_is low high w None s h l k = sym (number_absent low high w h)

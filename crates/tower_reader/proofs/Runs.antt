@@ -13,7 +13,9 @@ use Rattle.tower_reader.specs.Part.{Part, nothing, build}
 use Rattle.tower_reader.specs.Spelled.{count, fitting}
 use Rattle.tower_reader.specs.Faults.{Offence, form_at, number_at, length_at}
 use Rattle.tower_reader.specs.Reading.{first_form, first_number, first_length, offences, offences_in, part_of, parts_of, at_row}
-use Rattle.tower_reader.specs.Machine.{or_else, merged, firsts, clean, form_alone, Frame, opened, slot, headed, taken_in, entered, closed, added, added_all, step, run}
+use Rattle.tower_reader.specs.Machine.{or_else, merged, firsts, clean, form_alone, kept, kept_part, counted, Frame, opened, slot, headed, taken_in, entered, closed, added, added_all, step, run}
+use Rattle.tower_reader.proofs.Counts.{counted_more, place_counted, fits_counted}
+use Rattle.tower_reader.proofs.Kept.{kept_before, taken_kept, built_kept}
 
 form_append : (xs ys : List Offence) → first_form (xs ++ ys) ≡ or_else (first_form xs) (first_form ys)
 form_append [] ys = refl
@@ -50,13 +52,24 @@ merged_assoc a b c = λ i. record { form = or_assoc a.form b.form c.form i; numb
 merged_clean : (a : Found) → merged a clean ≡ a
 merged_clean a = λ i. record { form = or_none a.form i; number = or_none a.number i; length = or_none a.length i }
 
--- a frame whose row is known
+-- a frame whose row is known, behind so many children
 abbrev pub known : Place → ℕ → Row → ℕ → List Part → Found → Frame
-known p at r i ps o = record { place = p; at = at; heading = heading.Known r; count = i; parts = ps; found = o }
+known p at r i ps o = record { place = p; at = at; heading = heading.Known r; count = counted i; parts = kept o ps; found = o }
+
+-- the same, where a child comes at a place
+abbrev behind : Place → Place → ℕ → Row → ℕ → List Part → Found → Tree → Frame
+behind q p at r i ps o t = record { place = p; at = at; heading = heading.Known r; count = i; parts = kept (merged o (firsts (offences q t))) (ps ++ part_of q t ∷ []); found = merged o (firsts (offences q t)) }
+
+added_by : (t : Tree) (p : Place) (at : ℕ) (r : Row) (i : ℕ) (ps : List Part) (o : Found) → added t (known p at r i ps o) ≡ behind (place_at r (counted i)) p at r (counted (counted i + 1)) (kept o ps) o t
+added_by (atom a w) p at r i ps o = refl
+added_by (list a ts) p at r i ps o = refl
 
 added_known : (t : Tree) (p : Place) (at : ℕ) (r : Row) (i : ℕ) (ps : List Part) (o : Found) → added t (known p at r i ps o) ≡ known p at r (i + 1) (ps ++ part_of (place_at r i) t ∷ []) (merged o (firsts (offences (place_at r i) t)))
-added_known (atom a w) p at r i ps o = refl
-added_known (list a ts) p at r i ps o = refl
+added_known t p at r i ps o =
+    let o' = merged o (firsts (offences (place_at r i) t)) in
+    added_by t p at r i ps o
+    ∙ (λ j. behind (place_counted r i j) p at r (counted_more i j) (kept o ps) o t)
+    ∙ ap (λ qs. record { place = p; at = at; heading = heading.Known r; count = counted (i + 1); parts = qs; found = o' }) (kept_before o (firsts (offences (place_at r i) t)) ps (part_of (place_at r i) t))
 
 pub all_known : (ts : Trees) (p : Place) (at : ℕ) (r : Row) (i : ℕ) (ps : List Part) (o : Found) → added_all ts (known p at r i ps o) ≡ known p at r (i + count ts) (ps ++ parts_of r i ts) (merged o (firsts (offences_in r i ts)))
 all_known no_trees p at r i ps o =
@@ -78,25 +91,35 @@ all_unknown no_trees p at = refl
 all_unknown (tree (atom a w) ts) p at = all_unknown ts p at
 all_unknown (tree (list a us) ts) p at = all_unknown ts p at
 
--- what a node is read as
-abbrev pub read_as : Place → Tree → Part × Found
-read_as p t = (part_of p t, firsts (offences p t))
-
 abbrev pair : Part → Found → Part × Found
 pair p o = (p, o)
 
-abbrev Fits : ℕ → Row → Trees → Bool → Type 0
-Fits at r ts b = cond b (pair (build r at (parts_of r 0 ts)) (firsts (offences_in r 0 ts))) (pair nothing (form_alone at)) ≡ pair (at_row nothing (λ r. build r at (parts_of r 0 ts)) (cond b (Some r) None)) (firsts (at_row (form_at at ∷ []) (λ r. offences_in r 0 ts) (cond b (Some r) None)))
+-- what a node is read as, with no part where something was found
+abbrev pub read_as : Place → Tree → Part × Found
+read_as p t = pair (kept_part (firsts (offences p t)) (part_of p t)) (firsts (offences p t))
 
-fits_cases : (at : ℕ) (r : Row) (ts : Trees) (b : Bool) → Fits at r ts b
+-- what a closed list of a row is, and what its node is read as
+abbrev closed_as : ℕ → Row → Trees → Bool → Part × Found
+closed_as at r ts b = cond b (pair (kept_part (firsts (offences_in r 0 ts)) (build r at (parts_of r 0 ts))) (firsts (offences_in r 0 ts))) (pair nothing (form_alone at))
+
+abbrev row_read : ℕ → Trees → Option Row → Part × Found
+row_read at ts o = pair (kept_part (firsts (at_row (form_at at ∷ []) (λ r. offences_in r 0 ts) o)) (at_row nothing (λ r. build r at (parts_of r 0 ts)) o)) (firsts (at_row (form_at at ∷ []) (λ r. offences_in r 0 ts) o))
+
+fits_cases : (at : ℕ) (r : Row) (ts : Trees) (b : Bool) → closed_as at r ts b ≡ row_read at ts (cond b (Some r) None)
 fits_cases at r ts true = refl
 fits_cases at r ts false = refl
 
-by_row : (o : Option Row) (p : Place) (at : ℕ) (ts : Trees) → closed (added_all ts (record (opened p at) { heading = headed o })) ≡ pair (at_row nothing (λ r. build r at (parts_of r 0 ts)) (fitting (count ts) o)) (firsts (at_row (form_at at ∷ []) (λ r. offences_in r 0 ts) (fitting (count ts) o)))
+closed_known : (p : Place) (at : ℕ) (r : Row) (ts : Trees) → closed (known p at r (0 + count ts) (parts_of r 0 ts) (firsts (offences_in r 0 ts))) ≡ closed_as at r ts (count_fits r (count ts))
+closed_known p at r ts =
+    let o = firsts (offences_in r 0 ts) in
+    let a : counted (0 + count ts) ≡ counted (count ts) = omega arith in
+    let b : count_fits r (counted (0 + count ts)) ≡ count_fits r (count ts) = ap (count_fits r) a ∙ fits_counted r (count ts) in
+    let c = built_kept o r at (parts_of r 0 ts) in
+    λ j. cond (b j) (pair (c j) o) (pair nothing (form_alone at))
+
+by_row : (o : Option Row) (p : Place) (at : ℕ) (ts : Trees) → closed (added_all ts (record (opened p at) { heading = headed o })) ≡ row_read at ts (fitting (count ts) o)
 by_row None p at ts = ap closed (all_unknown ts p at)
-by_row (Some r) p at ts =
-    let a : 0 + count ts ≡ count ts = omega arith in
-    ap closed (all_known ts p at r 0 [] clean) ∙ ap (λ n. closed (known p at r n (parts_of r 0 ts) (firsts (offences_in r 0 ts)))) a ∙ fits_cases at r ts (count_fits r (count ts))
+by_row (Some r) p at ts = ap closed (all_known ts p at r 0 [] clean) ∙ closed_known p at r ts ∙ fits_cases at r ts (count_fits r (count ts))
 
 closed_list : (ts : Trees) (p : Place) (at : ℕ) → closed (added_all ts (opened p at)) ≡ read_as p (list at ts)
 closed_list no_trees p at = refl
@@ -115,4 +138,5 @@ run_spelled (a_list {at = at} {items = items} {ts = ts} {vs = vs} {us = us} end 
     run_append vs (token.Right end ∷ us) (opened (slot f) at ∷ f ∷ fs)
     ∙ ap (run (token.Right end ∷ us)) (run_spelled inner (opened (slot f) at) (f ∷ fs))
     ∙ ap (λ x. run us (taken_in x.0 x.1 f ∷ fs)) (closed_list items (slot f) at)
+    ∙ ap (λ g. run us (g ∷ fs)) (taken_kept (part_of (slot f) (list at items)) (firsts (offences (slot f) (list at items))) f)
     ∙ run_spelled s (added (list at items) f) fs

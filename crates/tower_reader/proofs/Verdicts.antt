@@ -26,7 +26,7 @@ use Rattle.tower_reader.specs.Spelled.{Spells, Reads, byte_limit, count, fitting
 use Rattle.tower_reader.specs.Faults.{Offence, form_at, number_at, length_at, OffendsInText, TextOffends, rank, Precedes, IsFault}
 use Rattle.tower_reader.specs.Reading.{offences, offences_in, part_of, parts_of, at_row, first_form, first_number, first_length}
 use Rattle.tower_reader.specs.Machine.{firsts}
-use Rattle.tower_reader.specs.Verdict.{fault_of, by_form, by_parts, by_tokens, verdict}
+use Rattle.tower_reader.specs.Verdict.{fault_of, by_parts, by_form, by_found, by_tokens, verdict}
 use Rattle.tower_reader.proofs.Exact.{complete, sound, one_part, Fitted, fitted, nil_left, nil_right}
 use Rattle.tower_reader.proofs.Words.{found}
 use Rattle.tower_reader.proofs.Offences.{Among, listed_in, offends_in}
@@ -250,22 +250,22 @@ spells_first bs t no_trees s e h =
     }
 spells_first bs t (tree u us) s e h = absurd (nowhere u (nil_left _ _ (nil_right (offences place.Tower t) _ h)))
 
-by_kinds : (bs : List ℕ) (r : Raw Id) (f n l : Option ℕ) → Sound bs → first_form (file_offences bs) ≡ f → first_number (file_offences bs) ≡ n → first_length (file_offences bs) ≡ l → (file_offences bs ≡ [] → Spells bs r) → Answers bs (by_form f n l r)
-by_kinds bs r (Some at) n l s e g k h = form_fault bs at s e
-by_kinds bs r None (Some at) l s e g k h = number_fault bs at s e g
-by_kinds bs r None None (Some at) s e g k h = length_fault bs at s e g k
-by_kinds bs r None None None s e g k h = h (none_at_all (file_offences bs) e g k)
+by_kinds : (bs : List ℕ) (ps : List Part) (f n l : Option ℕ) → Sound bs → first_form (file_offences bs) ≡ f → first_number (file_offences bs) ≡ n → first_length (file_offences bs) ≡ l → (file_offences bs ≡ [] → Answers bs (by_parts ps)) → Answers bs (by_form f n l ps)
+by_kinds bs ps (Some at) n l s e g k h = form_fault bs at s e
+by_kinds bs ps None (Some at) l s e g k h = number_fault bs at s e g
+by_kinds bs ps None None (Some at) s e g k h = length_fault bs at s e g k
+by_kinds bs ps None None None s e g k h = h (none_at_all (file_offences bs) e g k)
 
 no_tokens : {ts : Trees} {us : List Token} → TreesSpell ts us → ts ≡ no_trees → us ≡ []
 no_tokens spells_nothing e = refl
 no_tokens (an_atom s) e = cc
 no_tokens (a_list end inner s) e = cc
 
-by_text : (bs : List ℕ) (ts : Trees) → Sound bs → trees_of_text bs ≡ ts → Answers bs (by_parts (parts_of row.File 0 ts) (firsts (offences_in row.File 0 ts)))
+by_text : (bs : List ℕ) (ts : Trees) → Sound bs → trees_of_text bs ≡ ts → Answers bs (by_found (firsts (offences_in row.File 0 ts)) (parts_of row.File 0 ts))
 by_text bs no_trees s e = absurd (s.faultless token.Empty (no_tokens (faultless_spells bs s.faultless) e))
 by_text bs (tree t ts) s e =
     let os = ap (offences_in row.File 0) e in
-    by_kinds bs (as_tower (part_of place.Tower t)) _ _ _ s (ap first_form os) (ap first_number os) (ap first_length os) (λ h. spells_first bs t ts s e (sym os ∙ h))
+    by_kinds bs (parts_of row.File 0 (tree t ts)) _ _ _ s (ap first_form os) (ap first_number os) (ap first_length os) (λ h. spells_first bs t ts s e (sym os ∙ h))
 
 by_fault : (bs : List ℕ) (o : Option SexpFault) → length bs ≤ byte_limit → first_fault (marks_of bs) ≡ o → Answers bs (by_tokens o (trees_of_text bs))
 by_fault bs (Some f) l e = token_fault bs f l (computed_is_fault bs f e)

@@ -1,5 +1,5 @@
 -- The reader of tokens: the lists that are unclosed, and what a token makes of them.
-use Rattle.std.specs.Prelude.{ℕ, ◌+◌, List, [], ◌∷◌, ◌++◌, if◌then◌else◌, Option, Some, None}
+use Rattle.std.specs.Prelude.{◌≡◌, ℕ, ◌+◌, min, length, List, [], ◌∷◌, ◌++◌, Bool, false, ◌&&◌, if◌then◌else◌, Option, Some, None, is_none}
 use Rattle.tower_sexp.specs.declared.token.Token.{Token}
 use Rattle.tower_sexp.specs.declared.token.Token.TheVariants as token
 use Rattle.tower_sexp.specs.Trees.{Tree, atom, list, Trees, no_trees, tree}
@@ -33,8 +33,29 @@ clean = record { form = None; number = None; length = None }
 abbrev pub form_alone : ℕ → Found
 form_alone at = record { form = Some at; number = None; length = None }
 
+abbrev pub is_clean : Found → Bool
+is_clean o = is_none o.form && is_none o.number && is_none o.length
+
+-- Once something was found in a list, no part of a child is kept.
+
+abbrev pub kept : Found → List Part → List Part
+kept o ps = if is_clean o then ps else []
+
+abbrev pub kept_part : Found → Part → Part
+kept_part o p = if is_clean o then p else nothing
+
+abbrev pub IsLean : Found → ℕ → Type 0
+IsLean o n = is_clean o ≡ false → n ≡ 0
+
+-- how many children are counted: more than any row has places
+abbrev pub count_limit : ℕ
+count_limit = 255
+
+abbrev pub counted : ℕ → ℕ
+counted n = min n count_limit
+
 -- A list that is unclosed: its place and offset, what is known of its head, how many children came behind the head, the
--- parts that they are, and what was found in them.
+-- parts that they are as long as nothing was found in them, and what was found.
 pub record Frame : Type 0 where
   pub place : Place
   pub at : ℕ
@@ -43,12 +64,20 @@ pub record Frame : Type 0 where
   pub parts : List Part
   pub found : Found
 
+-- of no list in which something was found a part is kept
+abbrev pub AllLean : List Frame → Type 0
+AllLean [] = Unit {0}
+AllLean (f ∷ fs) = IsLean f.found (length f.parts) × AllLean fs
+
 abbrev pub opened : Place → ℕ → Frame
 opened p at = record { place = p; at = at; heading = heading.Fresh; count = 0; parts = []; found = clean }
 
 -- the file, which is a row without a head
 abbrev pub bottom : Frame
 bottom = record { place = place.Nowhere; at = 0; heading = heading.Known row.File; count = 0; parts = []; found = clean }
+
+abbrev pub IsFile : Frame → Type 0
+IsFile f = f.heading ≡ heading.Known row.File
 
 abbrev pub slot_by : Heading → ℕ → Place
 slot_by heading.Fresh n = place.Nowhere
@@ -66,7 +95,7 @@ headed (Some r) = heading.Known r
 abbrev pub taken_by : Heading → Part → Found → Frame → Frame
 taken_by heading.Fresh p o f = record f { heading = heading.Unknown }
 taken_by heading.Unknown p o f = f
-taken_by (heading.Known r) p o f = record f { count = f.count + 1; parts = f.parts ++ p ∷ []; found = merged f.found o }
+taken_by (heading.Known r) p o f = record f { count = counted (f.count + 1); parts = kept (merged f.found o) (f.parts ++ p ∷ []); found = merged f.found o }
 
 -- a child that is whole
 abbrev pub taken_in : Part → Found → Frame → Frame
@@ -84,7 +113,7 @@ entered at w f = entered_by f.heading at w f
 abbrev pub closed_by : Heading → Frame → Part × Found
 closed_by heading.Fresh f = (nothing, form_alone f.at)
 closed_by heading.Unknown f = (nothing, form_alone f.at)
-closed_by (heading.Known r) f = if count_fits r f.count then (build r f.at f.parts, f.found) else (nothing, form_alone f.at)
+closed_by (heading.Known r) f = if count_fits r f.count then (kept_part f.found (build r f.at f.parts), f.found) else (nothing, form_alone f.at)
 
 -- what a list is once it is closed
 abbrev pub closed : Frame → Part × Found

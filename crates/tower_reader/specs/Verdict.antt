@@ -27,29 +27,29 @@ fault_of (token.Unclosed at) = fault.Unclosed at
 fault_of token.Empty = fault.Empty
 fault_of token.NoMemory = fault.NoMemory
 
-abbrev pub by_length : Option ℕ → Raw Id → Result (Raw Id) ReadFault
-by_length (Some at) r = Err (fault.Length at)
-by_length None r = Ok r
+-- the tree of the first part
+abbrev pub by_parts : List Part → Result (Raw Id) ReadFault
+by_parts [] = Err fault.Empty
+by_parts (p ∷ ps) = Ok (as_tower p)
 
-abbrev pub by_number : Option ℕ → Option ℕ → Raw Id → Result (Raw Id) ReadFault
-by_number (Some at) l r = Err (fault.Number at)
-by_number None l r = by_length l r
+abbrev pub by_length : Option ℕ → List Part → Result (Raw Id) ReadFault
+by_length (Some at) ps = Err (fault.Length at)
+by_length None ps = by_parts ps
 
-abbrev pub by_form : Option ℕ → Option ℕ → Option ℕ → Raw Id → Result (Raw Id) ReadFault
-by_form (Some at) n l r = Err (fault.Form at)
-by_form None n l r = by_number n l r
+abbrev pub by_number : Option ℕ → Option ℕ → List Part → Result (Raw Id) ReadFault
+by_number (Some at) l ps = Err (fault.Number at)
+by_number None l ps = by_length l ps
 
--- the first form fault, else the first number, else the first length
-abbrev pub by_found : Found → Raw Id → Result (Raw Id) ReadFault
-by_found o r = by_form o.form o.number o.length r
+abbrev pub by_form : Option ℕ → Option ℕ → Option ℕ → List Part → Result (Raw Id) ReadFault
+by_form (Some at) n l ps = Err (fault.Form at)
+by_form None n l ps = by_number n l ps
 
--- the file, of which the parts and what was found in them are these
-abbrev pub by_parts : List Part → Found → Result (Raw Id) ReadFault
-by_parts [] o = Err fault.Empty
-by_parts (p ∷ ps) o = by_found o (as_tower p)
+-- the first form fault of a file, else the first number, else the first length, else the tree
+abbrev pub by_found : Found → List Part → Result (Raw Id) ReadFault
+by_found o ps = by_form o.form o.number o.length ps
 
 abbrev pub by_trees : Trees → Result (Raw Id) ReadFault
-by_trees ts = by_parts (parts_of row.File 0 ts) (firsts (offences_in row.File 0 ts))
+by_trees ts = by_found (firsts (offences_in row.File 0 ts)) (parts_of row.File 0 ts)
 
 abbrev pub by_tokens : Option SexpFault → Trees → Result (Raw Id) ReadFault
 by_tokens (Some f) ts = Err (fault_of f)
@@ -62,7 +62,7 @@ verdict bs = if nat_lt byte_limit (length bs) then Err (fault.Long byte_limit) e
 -- what the frames that are left at the end of a text say
 abbrev pub outcome : List Frame → Result (Raw Id) ReadFault
 outcome [] = Err fault.Empty
-outcome (f ∷ fs) = by_parts f.parts f.found
+outcome (f ∷ fs) = by_found f.found f.parts
 
 abbrev pub Fails : ReadFault → Result (Raw Id) ReadFault → Type 0
 Fails fault.NoMemory v = Unit {0}

@@ -1,9 +1,10 @@
 -- What the program's parts and frames stand for.
-use Rattle.std.specs.Prelude.{List, map, length, reverse}
+use Rattle.std.specs.Prelude.{List, ◌∷◌, map, reverse}
 use Rattle.tower_syntax.specs.RawView.{id_of, raw_type_of, raw_place_of, raw_expr_of, raw_stmt_of, all_raw_stmts_of, raw_field_of, raw_hpart_of, raw_part_of, raw_item_of, raw_of}
 use Rattle.tower_reader.specs.declared.part.Part.{Part as PartValue}
 use Rattle.tower_reader.specs.declared.part.Part.TheVariants as part
 use Rattle.tower_reader.specs.declared.frame.Frame.{Frame as FrameValue}
+use Rattle.tower_reader.specs.declared.lists.Lists.{Lists}
 use Rattle.tower_reader.specs.Part.{Part, nothing, a_name, a_number, a_literal, a_type, a_place, an_expr, a_stmt, a_block, a_field, an_hpart, a_part, an_item, a_tower}
 use Rattle.tower_reader.specs.Machine.{Frame}
 
@@ -27,8 +28,8 @@ abbrev pub all_seen : List PartValue → List Part
 all_seen ps = map seen ps
 
 abbrev pub frame_of : FrameValue → Frame
-frame_of f = record { place = f.place; at = f.at; heading = f.heading; count = length f.parts.items; parts = all_seen f.parts.items; found = f.found }
+frame_of f = record { place = f.place; at = f.at; heading = f.heading; count = f.count; parts = all_seen f.parts.items; found = f.found }
 
 -- the frames, the innermost first
-abbrev pub frames_of : List FrameValue → List Frame
-frames_of fs = reverse (map frame_of fs)
+abbrev pub frames_of : Lists → List Frame
+frames_of l = frame_of l.top ∷ reverse (map frame_of l.outer.items)

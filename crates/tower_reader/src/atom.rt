@@ -1,5 +1,5 @@
 //! What an atom at a place is read as.
-ghost use Rattle.std.specs.Prelude.{◌≡◌, IfOk};
+ghost use Rattle.std.specs.Prelude.{◌≡◌, IfOk, IsOk};
 ghost use Rattle.tower_syntax.specs.RawView.{id_of};
 ghost use Rattle.tower_reader.specs.Reading.{name_offences, atom_offences, id_of_atom, atom_part};
 ghost use Rattle.tower_reader.specs.Machine.{firsts};
@@ -84,7 +84,8 @@ fn value_part(alloc: Global, at: u32, text: &[u8]) -> Result<Part, NoMemory>
 
 /// The part that an atom is where such atoms may stand.
 pub(crate) fn atom_part(alloc: Global, atoms: Atoms, at: u32, text: &[u8]) -> Result<Part, NoMemory>
-    ensures { IfOk result (λ p. seen p ≡ atom_part atoms at text.now) }
+    ensures part { IfOk result (λ p. seen p ≡ atom_part atoms at text.now) }
+    ensures none { atoms ≡ Atoms.None → IsOk result }
 {
     match atoms {
         Atoms::None => Ok(Part::Nothing),

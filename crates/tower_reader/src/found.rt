@@ -1,7 +1,7 @@
 //! The first offence of each kind.
 ghost use Rattle.std.specs.Prelude.{◌≡◌, [], ◌∷◌};
 ghost use Rattle.tower_reader.specs.Faults.{number_at, length_at};
-ghost use Rattle.tower_reader.specs.Machine.{clean, form_alone, merged, or_else, firsts};
+ghost use Rattle.tower_reader.specs.Machine.{clean, form_alone, merged, or_else, firsts, is_clean};
 
 /// The first offence of each kind in a node, if it has one.
 #[derive(Clone, Copy)]
@@ -59,6 +59,12 @@ impl Found {
             number: None,
             length: Some(at),
         }
+    }
+
+    pub fn is_clean(self) -> bool
+        ensures { result ≡ is_clean self }
+    {
+        self.form.is_none() && self.number.is_none() && self.length.is_none()
     }
 
     /// What was found in a node and in the one behind it.

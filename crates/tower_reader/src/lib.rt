@@ -8,6 +8,7 @@ mod fault;
 mod found;
 mod frame;
 pub mod laws;
+mod lists;
 mod part;
 mod reader;
 mod table;

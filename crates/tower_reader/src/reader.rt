@@ -1,17 +1,14 @@
 //! Reads a text, in pieces of any size.
-ghost use Rattle.std.specs.Prelude.{◌≡◌, ◌≢◌, ℕ, ◌++◌, ◌∷◌, [], List, OnOk, OnErr, IfOk, IfErr, option_map, slice_get};
+ghost use Rattle.std.specs.Prelude.{◌≡◌, ◌≢◌, ℕ, ◌++◌, ◌∷◌, [], List, OnOk, IfOk, IfErr};
 ghost use Rattle.tower_syntax.specs.RawView.{raw_of};
 ghost use Rattle.tower_reader.specs.Spelled.{Spells};
 ghost use Rattle.tower_reader.specs.Faults.{IsFault};
-ghost use Rattle.tower_reader.specs.Machine.{bottom, opens, closes, enters, step, run};
-ghost use Rattle.tower_reader.specs.View.{frames_of};
-ghost use Rattle.tower_reader.specs.Verdict.{by_found, outcome, verdict, Gives};
+ghost use Rattle.tower_reader.specs.declared.fault.ReadFault.{ReadFault};
+ghost use Rattle.tower_reader.specs.Verdict.{verdict, Gives};
 ghost use Rattle.tower_reader.specs.Standing.{StandsFor, HasFailed};
 
-use crate::children::tower;
 use crate::fault::{ReadFault, fault_of};
-use crate::found::Found;
-use crate::frame::Frame;
+use crate::lists::Lists;
 use std::alloc::Global;
 use tower_sexp::{Fed, Lexer, Token};
 use tower_syntax::Raw;
@@ -19,6 +16,9 @@ use tower_types::NoMemory;
 
 /// How many bytes a text may have.
 const BYTE_LIMIT: u32 = 1_048_576;
+
+/// How many tokens a byte makes whole at most: an atom and a bracket.
+const TOKENS: usize = 2;
 
 /// How far a reader has come.
 #[derive(Clone, Copy)]
@@ -30,104 +30,16 @@ enum Stage {
     Failed,
 }
 
-/// Reads a text that comes in pieces. Beside the tree of what it has read it keeps the atom that has not ended, and for
-/// each unclosed list a frame, with a part for each child of that list, also where that is at fault.
+/// Reads a text that comes in pieces. Beside the tree of what it has read it keeps the atom that has not ended, and a
+/// frame of a fixed size for each unclosed list. Of a list in which something was found it keeps no tree.
 #[derive(Drop)]
 pub struct Reader {
-    alloc: Global,
     lexer: Lexer,
-    /// The lists that are unclosed, the innermost last. The first is the file.
-    frames: Vec<Frame>,
+    /// The lists that are unclosed.
+    lists: Lists,
+    /// Room for the tokens of a byte.
+    tokens: Vec<Token>,
     stage: Stage,
-}
-
-fn open(alloc: Global, frames: &mut Vec<Frame>, at: u32) -> Result<(), NoMemory>
-    ensures { OnOk result (frames_of frames.new.items ≡ opens at (frames_of frames.old.items)) }
-{
-    if let Some(top) = frames.last() {
-        let place = top.slot();
-        frames.push(Frame::opened(alloc, place, at))?;
-    }
-    Ok(())
-}
-
-fn close(alloc: Global, frames: &mut Vec<Frame>) -> Result<(), NoMemory>
-    ensures { OnOk result (frames_of frames.new.items ≡ closes (frames_of frames.old.items)) }
-{
-    if let Some(frame) = frames.pop() {
-        match frames.pop() {
-            Some(mut top) => {
-                let (part, found) = frame.closed(alloc)?;
-                top.take_in(part, found)?;
-                frames.push(top)?;
-            }
-            None => frames.push(frame)?,
-        }
-    }
-    Ok(())
-}
-
-fn enter(alloc: Global, frames: &mut Vec<Frame>, at: u32, text: &[u8]) -> Result<(), NoMemory>
-    ensures { OnOk result (frames_of frames.new.items ≡ enters at text.now (frames_of frames.old.items)) }
-{
-    if let Some(mut top) = frames.pop() {
-        top.enter(alloc, at, text)?;
-        frames.push(top)?;
-    }
-    Ok(())
-}
-
-fn read_token(alloc: Global, frames: &mut Vec<Frame>, token: Token) -> Result<(), NoMemory>
-    ensures { OnOk result (frames_of frames.new.items ≡ step token (frames_of frames.old.items)) }
-{
-    match token {
-        Token::Left { at } => open(alloc, frames, at),
-        Token::Right { .. } => close(alloc, frames),
-        Token::Atom { at, text } => enter(alloc, frames, at, text.as_slice()),
-    }
-}
-
-fn read_tokens(alloc: Global, frames: &mut Vec<Frame>, tokens: Vec<Token>) -> Result<(), NoMemory>
-    ensures { OnOk result (frames_of frames.new.items ≡ run tokens.items (frames_of frames.old.items)) }
-{
-    let mut tokens = tokens.into_iter();
-    while let Some(token) = tokens.next() {
-        read_token(alloc, frames, token)?;
-    }
-    Ok(())
-}
-
-/// The tree, or the first fault of the forms.
-fn found_or(found: Found, raw: Raw) -> Result<Raw, ReadFault>
-    ensures { Gives result (by_found found (raw_of raw)) }
-{
-    if let Some(at) = found.form {
-        return Err(ReadFault::Form { at });
-    }
-    if let Some(at) = found.number {
-        return Err(ReadFault::Number { at });
-    }
-    if let Some(at) = found.length {
-        return Err(ReadFault::Length { at });
-    }
-    Ok(raw)
-}
-
-/// What is read where the text has ended and no list is unclosed.
-fn read_frames(alloc: Global, mut frames: Vec<Frame>) -> Result<Raw, ReadFault>
-    ensures { Gives result (outcome (frames_of frames.items)) }
-{
-    let Some(frame) = frames.pop() else {
-        return Err(ReadFault::Empty);
-    };
-    let (part, found) = frame.into_first();
-    match part {
-        None => Err(ReadFault::Empty),
-        Some(part) => {
-            let raw = tower(alloc, part)?;
-            found_or(found, raw)
-        }
-    }
 }
 
 impl Reader {
@@ -135,12 +47,12 @@ impl Reader {
     pub fn new(alloc: Global) -> Result<Reader, NoMemory>
         ensures { IfOk result (λ r. StandsFor r []) }
     {
-        let mut frames = Vec::new(alloc);
-        frames.push(Frame::bottom(alloc))?;
+        let mut tokens = Vec::new(alloc);
+        tokens.reserve(TOKENS)?;
         Ok(Reader {
-            alloc,
             lexer: Lexer::new(alloc),
-            frames,
+            lists: Lists::new(alloc),
+            tokens,
             stage: Stage::Reads,
         })
     }
@@ -154,31 +66,26 @@ impl Reader {
             self.stage = Stage::Long;
             return Ok(());
         }
-        let mut tokens = Vec::new(self.alloc);
-        match self.lexer.feed(byte, &mut tokens) {
+        self.tokens.clear();
+        match self.lexer.feed(byte, &mut self.tokens) {
             Fed::Taken => {
-                read_tokens(self.alloc, &mut self.frames, tokens)?;
+                self.lists.read_tokens(self.tokens.as_slice())?;
                 Ok(())
             }
             Fed::NoMemory => Err(NoMemory),
         }
     }
 
-    fn take_byte(&mut self, byte: u8) -> Result<(), NoMemory>
-        ensures { OnOk result ((bs : List ℕ) → StandsFor self.old bs → StandsFor self.new (bs ++ byte ∷ [])) }
-    {
-        match self.stage {
-            Stage::Reads => self.read_byte(byte),
-            Stage::Long => Ok(()),
-            Stage::Failed => Err(NoMemory),
-        }
-    }
-
+    /// Once the text is longer than the limit, the rest is not looked at.
     fn take_piece(&mut self, piece: &[u8]) -> Result<(), NoMemory>
         ensures { OnOk result ((bs : List ℕ) → StandsFor self.old bs → StandsFor self.new (bs ++ piece.now)) }
     {
         for byte in piece {
-            self.take_byte(*byte)?;
+            match self.stage {
+                Stage::Reads => self.read_byte(*byte)?,
+                Stage::Long => return Ok(()),
+                Stage::Failed => return Err(NoMemory),
+            }
         }
         Ok(())
     }
@@ -207,26 +114,28 @@ impl Reader {
     /// The verdict on the text, where it is within the limit.
     fn end(self) -> Result<Raw, ReadFault>
         requires { self.stage ≡ Stage.Reads }
-        ensures { (bs : List ℕ) → StandsFor self bs → Gives result (verdict bs) }
+        ensures gives { (bs : List ℕ) → StandsFor self bs → Gives result (verdict bs) }
+        ensures told { (bs : List ℕ) (f : ReadFault) → StandsFor self bs → verdict bs ≡ Err f → result ≡ Err f }
     {
         let Reader {
-            alloc,
             lexer,
-            mut frames,
+            mut lists,
+            mut tokens,
             ..
         } = self;
-        let mut tokens = Vec::new(alloc);
+        tokens.clear();
         match lexer.finish(&mut tokens) {
             Err(fault) => Err(fault_of(fault)),
             Ok(()) => {
-                read_tokens(alloc, &mut frames, tokens)?;
-                read_frames(alloc, frames)
+                lists.read_tokens(tokens.as_slice())?;
+                lists.finish()
             }
         }
     }
 
     fn verdict(self) -> Result<Raw, ReadFault>
         ensures gives { (bs : List ℕ) → StandsFor self bs → Gives result (verdict bs) }
+        ensures told { (bs : List ℕ) (f : ReadFault) → StandsFor self bs → verdict bs ≡ Err f → result ≡ Err f }
         ensures failed { HasFailed self → result ≡ Err ReadFault.NoMemory }
     {
         match self.stage {
@@ -243,6 +152,9 @@ impl Reader {
         // For each text for which it stands:
         ensures ok { IfOk result (λ raw. (bs : List ℕ) → StandsFor self bs → Spells bs (raw_of raw)) }
         ensures fault { IfErr result (λ f. f ≢ ReadFault.NoMemory → (bs : List ℕ) → StandsFor self bs → IsFault bs f) }
+
+        // A text's fault is told without memory.
+        ensures told { (bs : List ℕ) (f : ReadFault) → StandsFor self bs → IsFault bs f → result ≡ Err f }
         ensures failed { HasFailed self → result ≡ Err ReadFault.NoMemory }
     {
         self.verdict()

@@ -128,6 +128,7 @@ struct RowRule {
     more: Option<Place>,
 }
 
+#[inline(always)]
 const fn form(word: &'static str, places: &'static [Place]) -> RowRule
     ensures { rule_of result ≡ Rattle.tower_reader.specs.Table.form word.now places.now }
 {
@@ -138,6 +139,7 @@ const fn form(word: &'static str, places: &'static [Place]) -> RowRule
     }
 }
 
+#[inline(always)]
 const fn many(word: &'static str, places: &'static [Place], more: Place) -> RowRule
     ensures { rule_of result ≡ Rattle.tower_reader.specs.Table.many word.now places.now more }
 {
@@ -148,6 +150,7 @@ const fn many(word: &'static str, places: &'static [Place], more: Place) -> RowR
     }
 }
 
+#[inline(always)]
 fn item_rule(row: ItemRow) -> RowRule
     ensures { rule_of result ≡ rule (Row.Item row) }
 {
@@ -170,6 +173,7 @@ fn item_rule(row: ItemRow) -> RowRule
     }
 }
 
+#[inline(always)]
 fn part_rule(row: PartRow) -> RowRule
     ensures { rule_of result ≡ rule (Row.Part row) }
 {
@@ -184,6 +188,7 @@ fn part_rule(row: PartRow) -> RowRule
     }
 }
 
+#[inline(always)]
 fn stmt_rule(row: StmtRow) -> RowRule
     ensures { rule_of result ≡ rule (Row.Stmt row) }
 {
@@ -200,6 +205,7 @@ fn stmt_rule(row: StmtRow) -> RowRule
     }
 }
 
+#[inline(always)]
 fn expr_rule(row: ExprRow) -> RowRule
     ensures { rule_of result ≡ rule (Row.Expr row) }
 {
@@ -215,6 +221,7 @@ fn expr_rule(row: ExprRow) -> RowRule
     }
 }
 
+#[inline(always)]
 fn rule(row: Row) -> RowRule
     ensures { rule_of result ≡ rule row }
 {

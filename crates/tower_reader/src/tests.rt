@@ -11,7 +11,7 @@ const LONG_NAME: &[u8] =
     b"(tower aaaaaaaaaabbbbbbbbbbccccccccccddddddddddeeeeeeeeeeffffffffffggggg)";
 
 /// Texts with a fault.
-const FAULTY: [(&[u8], ReadFault); 22] = [
+const FAULTY: [(&[u8], ReadFault); 25] = [
     (b"(tower a", ReadFault::Unclosed { at: 0 }),
     (b"(tower a))", ReadFault::Unopened { at: 9 }),
     (b"(tower \xC3\xA9)", ReadFault::Byte { at: 7 }),
@@ -41,6 +41,10 @@ const FAULTY: [(&[u8], ReadFault); 22] = [
     (b"((tower) a)", ReadFault::Form { at: 0 }),
     (b"tower", ReadFault::Form { at: 0 }),
     (b"(tower a_)", ReadFault::Form { at: 7 }),
+    (b"() () ()", ReadFault::Form { at: 0 }),
+    (b"(tower a) () ()", ReadFault::Form { at: 10 }),
+    // What was found in a list without a row is not told.
+    (b"(tower a (init b 256 (c)) (d))", ReadFault::Form { at: 9 }),
     // The fields of a record.
     (b"(tower a (record r))", ReadFault::Form { at: 9 }),
     (
@@ -123,10 +127,52 @@ fn fronts(rt: HostRuntime) {
             "in {text:?}"
         );
         assert!(rt;
-            read_pieces(rt.alloc(), text, 3).err() == fault,
+            read_pieces(rt.alloc(), text, 1).err() == fault,
             "in {text:?}"
         );
     }
+}
+
+/// More children than are counted: a list that has as many places, and one that has any number of them.
+#[test]
+fn children(rt: HostRuntime) -> Result<(), Fail> {
+    let alloc = rt.alloc();
+    let mut text = Vec::new(alloc);
+    text.extend_from_slice(b"(tower a (init b 1")?;
+    for _ in 0..256 {
+        text.extend_from_slice(b" c")?;
+    }
+    text.extend_from_slice(b"))")?;
+    is_faulty(&rt, alloc, text.as_slice(), ReadFault::Form { at: 9 });
+    text.clear();
+    text.extend_from_slice(b"(tower a")?;
+    for _ in 0..300 {
+        text.extend_from_slice(b" (init b 1)")?;
+    }
+    text.push(b')')?;
+    let items = read_pieces(alloc, text.as_slice(), 4096).map(|raw| raw.items.len());
+    assert!(rt; items == Ok(300));
+    Ok(())
+}
+
+/// A reader that failed stays so.
+#[test]
+fn memory(rt: HostRuntime) {
+    let Ok(mut reader) = Reader::new(rt.alloc()) else {
+        return;
+    };
+    let mut failed = false;
+    for byte in CLOCK.chunks(1) {
+        match reader.feed(byte) {
+            Fed::Taken => assert!(rt; !failed),
+            Fed::NoMemory => {
+                failed = true;
+                assert!(rt; reader.feed(b"") == Fed::NoMemory);
+            }
+        }
+    }
+    let answer = reader.finish();
+    assert!(rt; !failed || answer.err() == Some(ReadFault::NoMemory));
 }
 
 /// Where an allocation fails, the tree is the same or memory is wanting.

@@ -50,6 +50,9 @@ stopping l bs f e h = subst (λ o. StandsBy o (state_of l) bs) e h
 pub stopped_fault : (l : Lexer) (bs : List ℕ) (f : SexpFault) → l.stopped ≡ Some f → StandsFor l bs → IsFault bs f
 stopped_fault l bs f e h = computed_is_fault bs f (stops_fault f (state_of l) bs (stopping l bs f e h))
 
+pub has_memory : (l : Lexer) (bs : List ℕ) (f : SexpFault) → l.stopped ≡ Some f → StandsFor l bs → f ≡ fault.NoMemory → ⊥
+has_memory l bs f e h m = (subst (IsFault bs) m (stopped_fault l bs f e h)).offends
+
 pub end_fault : (l : Lexer) (bs : List ℕ) (f : SexpFault) → l.stopped ≡ None → fault_at_end (reverse l.unclosed) (l.is_empty && is_nil l.atom) ≡ Some f → StandsFor l bs → IsFault bs f
 end_fault l bs f e w h = computed_is_fault bs f (reads_fault (state_of l) bs (reading l bs e h) ∙ w)
 

@@ -9,3 +9,4 @@ pub mod Seen
 pub mod Spelled
 pub mod Classes
 pub mod Splitting
+pub mod Depth

@@ -55,6 +55,10 @@ StandsFor l bs = StandsBy l.stopped (state_of l) bs
 abbrev pub count_taken : Lexer → ℕ
 count_taken l = l.taken
 
+-- how many lists are unclosed
+abbrev pub count_unclosed : Lexer → ℕ
+count_unclosed l = length (state_of l).lists
+
 -- a lexer that ran out of memory
 abbrev pub HasFailed : Lexer → Type 0
 HasFailed l = l.stopped ≡ Some fault.NoMemory

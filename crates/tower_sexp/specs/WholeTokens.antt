@@ -1,5 +1,5 @@
 -- The tokens that the bytes of a text make whole.
-use Rattle.std.specs.Prelude.{◌≡◌, ℕ, ◌+◌, List, [], ◌++◌, length, nat_lt, Option, Some, None}
+use Rattle.std.specs.Prelude.{◌≡◌, ◌⊎◌, ℕ, ◌+◌, ◌-◌, List, [], ◌∷◌, ◌++◌, length, nat_lt, Option, Some, None}
 use Rattle.std.specs.List.{filter}
 use Rattle.tower_sexp.specs.declared.fault.SexpFault.{SexpFault}
 use Rattle.tower_sexp.specs.declared.token.Token.{Token}
@@ -35,3 +35,14 @@ pub record GrowsAlike (old new before after : List Token) : Type 0 where
   pub more : List Token
   pub put : new ≡ old ++ more
   pub made : after ≡ before ++ more
+
+-- one list is another with an atom behind it, or nothing
+abbrev pub EndsInAtom : List Token → List Token → Type 0
+EndsInAtom old new = (new ≡ old) ⊎ ((at : ℕ) × (text : List ℕ) × (new ≡ old ++ token.Atom at text ∷ []))
+
+-- how many lists are unclosed behind tokens, where so many were before them
+abbrev pub depth_behind : ℕ → List Token → ℕ
+depth_behind n [] = n
+depth_behind n (token.Left at ∷ ts) = depth_behind (n + 1) ts
+depth_behind n (token.Right at ∷ ts) = depth_behind (n - 1) ts
+depth_behind n (token.Atom at text ∷ ts) = depth_behind n ts

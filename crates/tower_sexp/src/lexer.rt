@@ -1,11 +1,11 @@
 //! Takes bytes one by one, and makes tokens of them.
-ghost use Rattle.std.specs.Prelude.{◌≡◌, ℕ, ◌+◌, ◌<◌, ◌≤◌, ◌++◌, ◌≢◌, OnOk, OnErr, IfErr, List, [], ◌∷◌, length, vec_len, vec_capacity, ◌&&◌};
+ghost use Rattle.std.specs.Prelude.{◌≡◌, ℕ, ◌+◌, ◌<◌, ◌≤◌, ◌++◌, ◌≢◌, OnOk, OnErr, IfErr, IsOk, List, [], ◌∷◌, length, vec_len, vec_capacity, ◌&&◌};
 ghost use Rattle.tower_sexp.specs.declared.fault.SexpFault.{SexpFault};
 ghost use Rattle.tower_sexp.specs.Marks.{tokens_of};
 ghost use Rattle.tower_sexp.specs.Faults.{IsFault, IsFaultless};
 ghost use Rattle.tower_sexp.specs.Lexing.{state_of, is_nil, atom_ended, advanced, lengthened, passed, bracketed, opened, open_put, closed_by, close_put, stopped_by, atom_put, next_state, next_put};
-ghost use Rattle.tower_sexp.specs.WholeTokens.{whole_tokens, GrowsAlike};
-ghost use Rattle.tower_sexp.specs.Standing.{StandsFor, HasFailed, count_taken};
+ghost use Rattle.tower_sexp.specs.WholeTokens.{whole_tokens, GrowsAlike, EndsInAtom, depth_behind};
+ghost use Rattle.tower_sexp.specs.Standing.{StandsFor, HasFailed, count_taken, count_unclosed};
 
 use crate::byte::{Class, class_in};
 use crate::fault::SexpFault;
@@ -50,6 +50,7 @@ impl Lexer {
     pub fn new(alloc: Global) -> Lexer
         ensures taken { count_taken result ≡ 0 }
         ensures stands { StandsFor result [] }
+        ensures nested { count_unclosed result ≡ 0 }
     {
         Lexer {
             alloc,
@@ -83,6 +84,8 @@ impl Lexer {
         ensures state { OnOk result (state_of self.new ≡ atom_ended (state_of self.old)) }
         ensures put { OnOk result (out.new.items ≡ out.old.items ++ atom_put (state_of self.old)) }
         ensures err { OnErr result ((self.new ≡ self.old) × (out.new.items ≡ out.old.items)) }
+        ensures room { vec_len out.old < vec_capacity out.old → IsOk result }
+        ensures capacity { vec_capacity out.old ≤ vec_capacity out.new }
     {
         if self.atom.is_empty() {
             return Ok(());
@@ -125,6 +128,7 @@ impl Lexer {
         ensures state { OnOk result (state_of self.new ≡ passed comment (state_of self.old)) }
         ensures put { OnOk result (out.new.items ≡ out.old.items ++ atom_put (state_of self.old)) }
         ensures err { OnErr result ((count_taken self.new ≡ count_taken self.old) × (out.new.items ≡ out.old.items)) }
+        ensures capacity { vec_capacity out.old ≤ vec_capacity out.new }
     {
         self.end_atom(out)?;
         self.advance(comment);
@@ -137,6 +141,7 @@ impl Lexer {
         ensures state { OnOk result (state_of self.new ≡ bracketed (state_of self.old).lists (state_of self.old)) }
         ensures put { OnOk result (out.new.items ≡ out.old.items ++ atom_put (state_of self.old) ++ bracket ∷ []) }
         ensures err { OnErr result ((count_taken self.new ≡ count_taken self.old) × (out.new.items ≡ out.old.items)) }
+        ensures capacity { vec_capacity out.old ≤ vec_capacity out.new }
     {
         out.reserve(2)?;
         self.put_atom(out);
@@ -151,6 +156,7 @@ impl Lexer {
         ensures state { OnOk result (state_of self.new ≡ opened (state_of self.old)) }
         ensures put { OnOk result (out.new.items ≡ out.old.items ++ open_put (state_of self.old)) }
         ensures err { OnErr result ((count_taken self.new ≡ count_taken self.old) × (out.new.items ≡ out.old.items)) }
+        ensures capacity { vec_capacity out.old ≤ vec_capacity out.new }
     {
         let at = self.taken;
         if self.unclosed.len() == NEST_LIMIT {
@@ -167,6 +173,7 @@ impl Lexer {
         ensures state { OnOk result (state_of self.new ≡ closed_by (state_of self.old).lists (state_of self.old)) }
         ensures put { OnOk result (out.new.items ≡ out.old.items ++ close_put (state_of self.old).lists (state_of self.old)) }
         ensures err { OnErr result ((count_taken self.new ≡ count_taken self.old) × (out.new.items ≡ out.old.items)) }
+        ensures capacity { vec_capacity out.old ≤ vec_capacity out.new }
     {
         let at = self.taken;
         match self.unclosed.pop() {
@@ -187,6 +194,7 @@ impl Lexer {
         ensures state { OnOk result (state_of self.new ≡ next_state byte (state_of self.old)) }
         ensures put { OnOk result (out.new.items ≡ out.old.items ++ next_put byte (state_of self.old)) }
         ensures err { OnErr result ((count_taken self.new ≡ count_taken self.old) × (out.new.items ≡ out.old.items)) }
+        ensures capacity { vec_capacity out.old ≤ vec_capacity out.new }
     {
         match class_in(self.comment, byte) {
             Class::Atom => self.lengthen(byte)?,
@@ -227,10 +235,15 @@ impl Lexer {
         ensures put { result ≡ Fed.Taken → (bs : List ℕ) → StandsFor self.old bs → GrowsAlike out.old.items out.new.items (whole_tokens bs) (whole_tokens (bs ++ byte ∷ [])) }
         ensures counted { result ≡ Fed.Taken → count_taken self.new ≡ count_taken self.old + 1 }
 
+        // The lists that are unclosed are at most 256, and as many as the tokens say.
+        ensures few { result ≡ Fed.Taken → count_unclosed self.old ≤ 256 → count_unclosed self.new ≤ 256 }
+        ensures nested { result ≡ Fed.Taken → out.old.items ≡ [] → count_unclosed self.old ≤ 256 → count_unclosed self.new ≡ depth_behind (count_unclosed self.old) out.new.items }
+
         // Once memory was wanting it fails for good.
         ensures fails { result ≡ Fed.NoMemory → HasFailed self.new }
         ensures unchanged { result ≡ Fed.NoMemory → (out.new.items ≡ out.old.items) × (count_taken self.new ≡ count_taken self.old) }
         ensures failed { HasFailed self.old → result ≡ Fed.NoMemory }
+        ensures capacity { vec_capacity out.old ≤ vec_capacity out.new }
     {
         match self.stopped {
             Some(SexpFault::NoMemory) => Fed::NoMemory,
@@ -258,6 +271,10 @@ impl Lexer {
         ensures told { (bs : List ℕ) (f : SexpFault) → StandsFor self bs → IsFault bs f → result ≡ Err f }
         ensures unchanged { OnErr result (out.new.items ≡ out.old.items) }
         ensures failed { HasFailed self → result ≡ Err SexpFault.NoMemory }
+
+        // What the end makes whole is an atom or nothing, and takes no memory where there is room for it.
+        ensures last { OnOk result (EndsInAtom out.old.items out.new.items) }
+        ensures room { (bs : List ℕ) → StandsFor self bs → vec_len out.old < vec_capacity out.old → result ≢ Err SexpFault.NoMemory }
     {
         if let Some(fault) = self.stopped {
             return Err(fault);

@@ -1,7 +1,6 @@
-use Rattle.std.proofs.Common.{refl, ap, ◌∙◌, ◌++◌, ◌∷◌, []}
-use Rattle.tower_reader.specs.View.{frames_of}
+use Rattle.std.proofs.Common.{refl, arith}
 use Rattle.tower_reader.proofs.Standing.{begun}
 use Rattle.tower_reader.proofs.reader.Reader.new.Goals as goal
 
 pub returns : goal.returns
-returns c = begun _ refl c.new.ensures.stands (ap frames_of (c.in_ok-push.ensures.items ∙ ap (λ fs. fs ++ c.bottom.result ∷ []) c.new-frames.ensures.items) ∙ ap (λ f. f ∷ []) c.bottom.ensures)
+returns c = begun _ refl c.new.ensures.stands c.new-2.ensures c.new.ensures.nested (omega (arith, c.in_ok-reserve.ensures.ok))

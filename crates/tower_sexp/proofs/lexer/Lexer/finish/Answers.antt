@@ -1,6 +1,6 @@
 use Rattle.std.proofs.Common.{ap, Err, rules}
 use Rattle.tower_sexp.proofs.Firsts.{one_fault}
-use Rattle.tower_sexp.proofs.Ends.{stopped_fault, end_fault, no_fault, all_tokens, last_list, empty, not_empty}
+use Rattle.tower_sexp.proofs.Ends.{stopped_fault, has_memory, end_fault, no_fault, all_tokens, last_list, empty, not_empty}
 use Rattle.tower_sexp.proofs.lexer.Lexer.finish.Goals as goal
 
 pub returns-in-Some-clause-fault : goal.returns-in-Some-clause-fault
@@ -8,6 +8,9 @@ returns-in-Some-clause-fault c = λ _ bs h. stopped_fault c.args.self bs c.in-So
 
 pub returns-in-Some-clause-told : goal.returns-in-Some-clause-told
 returns-in-Some-clause-told c = λ bs f h g. ap Err (one_fault bs _ f (stopped_fault c.args.self bs c.in-Some.fault c.in-Some.is h) g)
+
+pub returns-in-Some-clause-room : goal.returns-in-Some-clause-room
+returns-in-Some-clause-room c = λ bs h l e. has_memory c.args.self bs c.in-Some.fault c.in-Some.is h cc
 
 pub returns-in-Some-pop-clause-fault : goal.returns-in-Some-pop-clause-fault
 returns-in-Some-pop-clause-fault c = λ _ bs h. end_fault c.args.self bs _ c.in_default.is (last_list _ _ _ _ c.in-Some-pop.ensures) h
