@@ -12,8 +12,8 @@ use crate::names::{Names, Scope, Thing};
 use crate::uses::{known, pick, refer, refer_before};
 use sqlite_items::Boxed;
 use std::alloc::Global;
-use tower_types::{BinOp, UnOp};
 use tower_syntax::{Link, NamedExpr, NamedPlace, NamedType, RawExpr, RawPlace, RawType, Target};
+use tower_types::{BinOp, UnOp};
 
 /// A type. In a field of a record it is told where that record is declared.
 pub fn name_type(

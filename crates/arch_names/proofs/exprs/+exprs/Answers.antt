@@ -1,6 +1,6 @@
 use Rattle.std.proofs.Common.{refl, arith}
 use Rattle.arch_names.proofs.ExprRows.{bin_first, bin_second, bin_made, choose_first, choose_second, choose_third, choose_made, cast_first, cast_second, cast_made, index_first, index_second, index_made}
-use Rattle.arch_names.proofs.Sizes.{get_size, index_size, read_size, un_size, bin_size, choose_size, cast_size}
+use Rattle.arch_names.proofs.Sizes.{read_size, un_size, bin_size, choose_size, cast_size}
 use Rattle.arch_names.proofs.exprs.+exprs.Goals as goal
 
 pub named_bin-returns-in_err-a-clause-err : goal.named_bin-returns-in_err-a-clause-err
