@@ -271,9 +271,9 @@ fn name_stmt(
             name,
             times,
             body,
-        } => { named_loop(alloc, around, scope, *at, name, *times, body.as_slice()) }
-        RawStmt::Emit { at, emitter, value } => named_emit(
-            alloc, around, scope, *at, emitter, value,
-        ),
+        } => named_loop(alloc, around, scope, *at, name, *times, body.as_slice()),
+        RawStmt::Emit { at, emitter, value } => {
+            named_emit(alloc, around, scope, *at, emitter, value)
+        }
     }
 }
