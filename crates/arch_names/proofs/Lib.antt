@@ -7,6 +7,7 @@ pub mod ItemRows
 pub mod Offending
 pub mod Once
 pub mod PartRows
+pub mod Sizes
 pub mod Whole
 pub mod Places
 pub mod StmtRows

@@ -1,26 +1,24 @@
--- The sites of a handler and of a monitor by those of their parts, and what is made of a handler.
+-- The sites of a handler by those of its parts, and what is made of it.
 use Rattle.std.proofs.Common.{◌≡◌, ℕ, List, [], ◌∷◌, map, None, Result, sym, ap, subst, ◌∙◌}
 use Rattle.std.specs.Result.{IsErrAnd, IfErr}
 use Rattle.tower_syntax.specs.declared.named.Target.{Target}
 use Rattle.tower_syntax.specs.RawTree.{handler}
-use Rattle.tower_syntax.specs.RawView.{id_of, raw_hpart_of, raw_part_of, raw_item_of}
+use Rattle.tower_syntax.specs.RawView.{id_of, raw_hpart_of, raw_part_of}
 use Rattle.tower_syntax.specs.NamedView.{link_of, named_hpart_of, named_part_of}
 use Rattle.tower_syntax.specs.declared.raw.Id.{Id as IdValue}
 use Rattle.tower_syntax.specs.declared.raw.RawHpart.{RawHpart as HpartValue}
 use Rattle.tower_syntax.specs.declared.raw.RawPart.{RawPart as PartValue}
 use Rattle.tower_syntax.specs.declared.raw.RawPart.TheVariants as part
-use Rattle.tower_syntax.specs.declared.raw.RawItem.{RawItem as ItemValue}
-use Rattle.tower_syntax.specs.declared.raw.RawItem.TheVariants as item
 use Rattle.tower_syntax.specs.declared.named.Link.{Link as LinkValue}
 use Rattle.tower_syntax.specs.declared.named.NamedHpart.{NamedHpart as NamedHpartValue}
 use Rattle.tower_syntax.specs.declared.named.NamedPart.TheVariants as npart
 use Rattle.arch_names.specs.declared.names.Thing.{Thing}
 use Rattle.arch_names.specs.declared.fault.NameFault.{NameFault}
 use Rattle.arch_names.specs.declared.fault.Sort.TheVariants as sort
-use Rattle.arch_names.specs.Names.{Find, find}
-use Rattle.arch_names.specs.Sets.{each, states_of}
+use Rattle.arch_names.specs.Names.{Find}
+use Rattle.arch_names.specs.Sets.{each}
 use Rattle.arch_names.specs.Site.{Site, refers}
-use Rattle.arch_names.specs.Sites.{around, own, hpart_sites, part_sites, item_sites}
+use Rattle.arch_names.specs.Sites.{around, own, hpart_sites, part_sites}
 use Rattle.arch_names.specs.Linked.{link, linked_hpart, linked_part}
 use Rattle.arch_names.specs.Walk.{first, meant, IsMade, IsFault}
 use Rattle.arch_names.proofs.First.{clean_both, fault_right, exit}
@@ -44,13 +42,3 @@ module _ (file : Find Thing) where
       ap first handler_sites ∙ clean_both (own file (id_of x) ∷ []) (OnUse ∷ Inner) a (clean_both (OnUse ∷ []) Inner b.0 q.0),
       (λ i. handler at (e i) (b.1 i) (q.1 i)) ∙ (λ i. handler at (id_of x) (link meant OnUse) (map (linked_hpart meant (around file states (map raw_hpart_of (same i)))) (map raw_hpart_of (same i)))) ∙ sym (ap (λ z. linked_part meant file states (raw_part_of z)) is),
     )
-
-  module _ (t : ItemValue) (at : ℕ) (x : IdValue) (ps qs : List PartValue) (is : t ≡ item.Monitor at x ps) (same : qs ≡ ps) where
-    abbrev pub Parts : List Site
-    Parts = each (part_sites file (find (states_of (map raw_part_of qs)))) (map raw_part_of qs)
-
-    monitor_sites : item_sites file (raw_item_of t) ≡ own file (id_of x) ∷ Parts
-    monitor_sites = ap (λ z. item_sites file (raw_item_of z)) is ∙ (λ i. own file (id_of x) ∷ each (part_sites file (find (states_of (map raw_part_of (sym same i))))) (map raw_part_of (sym same i)))
-
-    pub monitor_exit : {R : Type 0} (r : Result R NameFault) (f : NameFault) → IsErrAnd r (λ z. z ≡ f) → first (own file (id_of x) ∷ []) ≡ None → IsFault Parts f → IfErr r (IsFault (item_sites file (raw_item_of t)))
-    monitor_exit r f h a q = exit r (item_sites file (raw_item_of t)) f h (subst (λ ss. IsFault ss f) (sym monitor_sites) (fault_right (own file (id_of x) ∷ []) Parts f a q))

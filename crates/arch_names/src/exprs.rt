@@ -13,6 +13,7 @@ use crate::uses::{known, pick, refer, refer_before};
 use sqlite_items::Boxed;
 use std::alloc::Global;
 use tower_syntax::{Link, NamedExpr, NamedPlace, NamedType, RawExpr, RawPlace, RawType, Target};
+use tower_types::{BinOp, UnOp};
 
 /// A type. In a field of a record it is told where that record is declared.
 pub fn name_type(
@@ -111,41 +112,90 @@ pub fn name_expr(
             scalar: *scalar,
             value: *value,
         }),
-        RawExpr::Un { at, op, a } => {
-            let a = name_boxed(alloc, file, states, scope, a.get())?;
-            Ok(NamedExpr::Un {
-                at: *at,
-                op: *op,
-                a,
-            })
-        }
+        RawExpr::Un { at, op, a } => named_un(alloc, file, states, scope, *at, *op, a.get()),
         RawExpr::Bin { at, op, a, b } => {
-            let a = name_boxed(alloc, file, states, scope, a.get())?;
-            let b = name_boxed(alloc, file, states, scope, b.get())?;
-            Ok(NamedExpr::Bin {
-                at: *at,
-                op: *op,
-                a,
-                b,
-            })
+            named_bin(alloc, file, states, scope, *at, *op, a.get(), b.get())
         }
         RawExpr::Cond { at, test, yes, no } => {
-            let test = name_boxed(alloc, file, states, scope, test.get())?;
-            let yes = name_boxed(alloc, file, states, scope, yes.get())?;
-            let no = name_boxed(alloc, file, states, scope, no.get())?;
-            Ok(NamedExpr::Cond {
-                at: *at,
-                test,
-                yes,
-                no,
-            })
+            let (yes, no) = (yes.get(), no.get());
+            named_cond(alloc, file, states, scope, *at, test.get(), yes, no)
         }
-        RawExpr::Cast { at, ty, a } => {
-            let ty = name_type(alloc, file, None, ty)?;
-            let a = name_boxed(alloc, file, states, scope, a.get())?;
-            Ok(NamedExpr::Cast { at: *at, ty, a })
-        }
+        RawExpr::Cast { at, ty, a } => named_cast(alloc, file, states, scope, *at, ty, a.get()),
     }
+}
+
+#[cycle(exprs)]
+fn named_un(
+    alloc: Global,
+    file: &Names<Thing>,
+    states: &Names<Target>,
+    scope: &Scope,
+    at: u32,
+    op: UnOp,
+    a: &RawExpr,
+) -> Result<NamedExpr, NameFault>
+    ensures ok { let known = in_scope (find states.now) scope.now in let expr = RawExpr.Un at op a.now in IfOk result (IsMade (expr_sites (find file.now) known (raw_expr_of expr)) named_expr_of (linked_expr meant (find file.now) known (raw_expr_of expr))) }
+    ensures err { IfErr result (IsFault (expr_sites (find file.now) (in_scope (find states.now) scope.now) (raw_expr_of (RawExpr.Un at op a.now)))) }
+{
+    let a = name_boxed(alloc, file, states, scope, a)?;
+    Ok(NamedExpr::Un { at, op, a })
+}
+
+#[cycle(exprs)]
+fn named_bin(
+    alloc: Global,
+    file: &Names<Thing>,
+    states: &Names<Target>,
+    scope: &Scope,
+    at: u32,
+    op: BinOp,
+    a: &RawExpr,
+    b: &RawExpr,
+) -> Result<NamedExpr, NameFault>
+    ensures ok { let known = in_scope (find states.now) scope.now in let expr = RawExpr.Bin at op a.now b.now in IfOk result (IsMade (expr_sites (find file.now) known (raw_expr_of expr)) named_expr_of (linked_expr meant (find file.now) known (raw_expr_of expr))) }
+    ensures err { IfErr result (IsFault (expr_sites (find file.now) (in_scope (find states.now) scope.now) (raw_expr_of (RawExpr.Bin at op a.now b.now)))) }
+{
+    let a = name_boxed(alloc, file, states, scope, a)?;
+    let b = name_boxed(alloc, file, states, scope, b)?;
+    Ok(NamedExpr::Bin { at, op, a, b })
+}
+
+#[cycle(exprs)]
+fn named_cond(
+    alloc: Global,
+    file: &Names<Thing>,
+    states: &Names<Target>,
+    scope: &Scope,
+    at: u32,
+    test: &RawExpr,
+    yes: &RawExpr,
+    no: &RawExpr,
+) -> Result<NamedExpr, NameFault>
+    ensures ok { let known = in_scope (find states.now) scope.now in let expr = RawExpr.Cond at test.now yes.now no.now in IfOk result (IsMade (expr_sites (find file.now) known (raw_expr_of expr)) named_expr_of (linked_expr meant (find file.now) known (raw_expr_of expr))) }
+    ensures err { IfErr result (IsFault (expr_sites (find file.now) (in_scope (find states.now) scope.now) (raw_expr_of (RawExpr.Cond at test.now yes.now no.now)))) }
+{
+    let test = name_boxed(alloc, file, states, scope, test)?;
+    let yes = name_boxed(alloc, file, states, scope, yes)?;
+    let no = name_boxed(alloc, file, states, scope, no)?;
+    Ok(NamedExpr::Cond { at, test, yes, no })
+}
+
+#[cycle(exprs)]
+fn named_cast(
+    alloc: Global,
+    file: &Names<Thing>,
+    states: &Names<Target>,
+    scope: &Scope,
+    at: u32,
+    ty: &RawType,
+    a: &RawExpr,
+) -> Result<NamedExpr, NameFault>
+    ensures ok { let known = in_scope (find states.now) scope.now in let expr = RawExpr.Cast at ty.now a.now in IfOk result (IsMade (expr_sites (find file.now) known (raw_expr_of expr)) named_expr_of (linked_expr meant (find file.now) known (raw_expr_of expr))) }
+    ensures err { IfErr result (IsFault (expr_sites (find file.now) (in_scope (find states.now) scope.now) (raw_expr_of (RawExpr.Cast at ty.now a.now)))) }
+{
+    let ty = name_type(alloc, file, None, ty)?;
+    let a = name_boxed(alloc, file, states, scope, a)?;
+    Ok(NamedExpr::Cast { at, ty, a })
 }
 
 #[cycle(exprs)]

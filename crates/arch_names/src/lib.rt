@@ -3,6 +3,7 @@
 
 mod exprs;
 mod fault;
+mod items;
 pub mod laws;
 mod names;
 mod parts;

@@ -1,4 +1,4 @@
-//! The parts of a file with their names looked up, and the whole.
+//! The parts of records and monitors with their names looked up.
 ghost use Rattle.std.specs.Prelude.{◌≡◌, ◌⊎◌, [], ◌∷◌, ◌++◌, map, Some, IfOk, IfErr};
 ghost use Rattle.tower_syntax.specs.RawView.{id_of, raw_field_of, raw_hpart_of, raw_part_of, raw_item_of, all_raw_stmts_of};
 ghost use Rattle.tower_syntax.specs.NamedView.{named_field_of, named_hpart_of, named_part_of, named_item_of, all_named_stmts_of};
@@ -60,7 +60,7 @@ fn each_field(
 }
 
 /// The fields of a record, which is declared at an offset.
-fn name_fields(
+pub fn name_fields(
     alloc: Global,
     file: &Names<Thing>,
     record_at: u32,
@@ -226,7 +226,7 @@ fn each_part(
 }
 
 /// The parts of a monitor.
-fn name_parts(
+pub fn name_parts(
     alloc: Global,
     file: &Names<Thing>,
     parts: &[RawPart],
@@ -236,114 +236,5 @@ fn name_parts(
 {
     let states = state_names(alloc, parts)?;
     let made = each_part(alloc, file, &states, parts)?;
-    Ok(made)
-}
-
-fn name_item(alloc: Global, file: &Names<Thing>, item: &RawItem) -> Result<NamedItem, NameFault>
-    ensures ok { IfOk result (IsMade (item_sites (find file.now) (raw_item_of item.now)) named_item_of (linked_item meant (find file.now) (raw_item_of item.now))) }
-    ensures err { IfErr result (IsFault (item_sites (find file.now) (raw_item_of item.now))) }
-{
-    match item {
-        RawItem::Record { at, name, fields } => {
-            declared_once(file, name)?;
-            let fields = name_fields(alloc, file, name.at, fields.as_slice())?;
-            let name = name.copy(alloc)?;
-            Ok(NamedItem::Record {
-                at: *at,
-                name,
-                fields,
-            })
-        }
-        RawItem::Init { at, name, priority } => {
-            declared_once(file, name)?;
-            let name = name.copy(alloc)?;
-            Ok(NamedItem::Init {
-                at: *at,
-                name,
-                priority: *priority,
-            })
-        }
-        RawItem::Period {
-            at,
-            name,
-            ms,
-            priority,
-            depth,
-        } => {
-            declared_once(file, name)?;
-            let name = name.copy(alloc)?;
-            Ok(NamedItem::Period {
-                at: *at,
-                name,
-                ms: *ms,
-                priority: *priority,
-                depth: *depth,
-            })
-        }
-        RawItem::Signal {
-            at,
-            name,
-            message,
-            priority,
-            depth,
-        } => {
-            declared_once(file, name)?;
-            let message = name_type(alloc, file, None, message)?;
-            let name = name.copy(alloc)?;
-            Ok(NamedItem::Signal {
-                at: *at,
-                name,
-                message,
-                priority: *priority,
-                depth: *depth,
-            })
-        }
-        RawItem::Channel { at, name, message } => {
-            declared_once(file, name)?;
-            let message = name_type(alloc, file, None, message)?;
-            let name = name.copy(alloc)?;
-            Ok(NamedItem::Channel {
-                at: *at,
-                name,
-                message,
-            })
-        }
-        RawItem::Output { at, name, channel } => {
-            declared_once(file, name)?;
-            let channel = refer(file, Sort::Channel, channel)?;
-            let name = name.copy(alloc)?;
-            Ok(NamedItem::Output {
-                at: *at,
-                name,
-                channel,
-            })
-        }
-        RawItem::Monitor { at, name, parts } => {
-            declared_once(file, name)?;
-            let parts = name_parts(alloc, file, parts.as_slice())?;
-            let name = name.copy(alloc)?;
-            Ok(NamedItem::Monitor {
-                at: *at,
-                name,
-                parts,
-            })
-        }
-    }
-}
-
-/// The items of a file, in whose one set the names of all of them are.
-pub fn name_items(
-    alloc: Global,
-    file: &Names<Thing>,
-    items: &[RawItem],
-) -> Result<Items<NamedItem>, NameFault>
-    ensures ok { let is = map raw_item_of items.now in IfOk result (IsMade (each (item_sites (find file.now)) is) (map named_item_of) (map (linked_item meant (find file.now)) is)) }
-    ensures err { let is = map raw_item_of items.now in IfErr result (IsFault (each (item_sites (find file.now)) is)) }
-{
-    let mut made = Items::new(alloc);
-    for item in items {
-        let item = name_item(alloc, file, item)?;
-        made.push(item)?;
-    }
     Ok(made)
 }

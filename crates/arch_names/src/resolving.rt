@@ -10,7 +10,7 @@ ghost use Rattle.arch_names.specs.Written.{Ascends};
 ghost use Rattle.arch_names.specs.declared.fault.NameFault.TheVariants.{NoMemory};
 
 use crate::fault::NameFault;
-use crate::parts::name_items;
+use crate::items::name_items;
 use crate::sets::file_names;
 use std::alloc::Global;
 use tower_syntax::{Named, Raw};

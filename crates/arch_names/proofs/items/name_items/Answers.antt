@@ -1,5 +1,5 @@
 use Rattle.arch_names.proofs.Gone.{none_gone, gone_more, gone_exit, all_gone}
-use Rattle.arch_names.proofs.parts.name_items.Goals as goal
+use Rattle.arch_names.proofs.items.name_items.Goals as goal
 
 pub loop-item-init : goal.loop-item-init
 loop-item-init c = none_gone _ _ _ _ _ _ c.new-made.ensures
