@@ -1,0 +1,12 @@
+pub mod Same
+pub mod Steps
+pub mod Fields
+pub mod Looked
+pub mod StmtWalk
+pub mod Nodes
+pub mod Typing
+pub mod First
+pub mod Law
+pub mod Sequence
+pub mod DeepRows
+pub mod Within

@@ -1,0 +1,12 @@
+pub mod Wanted
+pub mod Offence
+pub mod Typing
+pub mod Body
+pub mod Order
+pub mod Walk
+pub mod Seen
+pub mod Outline
+pub mod File
+pub mod Numbered
+pub mod Right
+pub mod Worked

@@ -1,0 +1,24 @@
+//! The types of a file: the checked tree, or the first fault.
+#![tactic(auto)]
+
+mod exprs;
+mod fault;
+mod heights;
+mod high;
+mod laws;
+mod rows;
+mod scope;
+mod stmts;
+mod text;
+mod wanted;
+
+
+pub use exprs::{check_expr, check_place};
+pub use fault::{TypeFault, Want};
+pub use heights::{height, place_height};
+pub use high::High;
+pub use laws::{type_expr, worked_types};
+pub use rows::{TypedExpr, TypedPlace};
+pub use scope::{Bound, Scope};
+pub use stmts::{AllChecked, Checked, check_stmts};
+pub use text::type_text;
