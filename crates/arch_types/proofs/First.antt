@@ -82,7 +82,7 @@ number_scalar (scalar s) h = refl
 number_scalar (array n t) h = absurd (false≢true h)
 number_scalar (record_type r) h = absurd (false≢true h)
 
-any_scalar : (t : Ty) → fulfils a_scalar t ≡ true → t ≡ scalar (scalar_in t)
+pub any_scalar : (t : Ty) → fulfils a_scalar t ≡ true → t ≡ scalar (scalar_in t)
 any_scalar (scalar s) h = refl
 any_scalar (array n t) h = absurd (false≢true h)
 any_scalar (record_type r) h = absurd (false≢true h)

@@ -10,3 +10,6 @@ pub mod Law
 pub mod Sequence
 pub mod DeepRows
 pub mod Within
+pub mod Agreed
+pub mod StmtFirst
+pub mod BranchFirst

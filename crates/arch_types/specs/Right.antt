@@ -1,14 +1,17 @@
--- What the walk over an expression or place is to give, where each name that there is has its type.
-use Rattle.std.specs.Prelude.{◌≡◌, ◌<◌, ℕ, length, Option, Some, None, Result, Ok, Err}
-use Rattle.tower_types.specs.Ty.{Ty}
+-- What the walk over expressions, places and statements is to give, where each name that there is has its type.
+use Rattle.std.specs.Prelude.{◌≡◌, ◌⊎◌, ◌<◌, ◌++◌, ℕ, List, length, Bool, Option, Some, None, Result, Ok, Err}
+use Rattle.tower_types.specs.Ty.{Ty, Fields}
 use Rattle.tower_syntax.specs.declared.named.Target.{Target}
 use Rattle.tower_syntax.specs.declared.named.Target.TheVariants as target
-use Rattle.tower_syntax.specs.RawTree.{Link, RawPlace, root, get, index, RawExpr, truth, read, lit, un, bin, choose, cast}
+use Rattle.tower_syntax.specs.RawTree.{Link, RawPlace, root, get, index, RawExpr, truth, read, lit, un, bin, choose, cast, RawStmt, RawStmts}
+use Rattle.tower_syntax.specs.View.{stmts_of}
 use Rattle.arch_types.specs.declared.fault.TypeFault.{TypeFault}
 use Rattle.arch_types.specs.declared.high.High.{High}
 use Rattle.arch_types.specs.Offence.{Faults, IsClean, IsFirst}
 use Rattle.arch_types.specs.Typing.{Env, BecomesPlace, Becomes, PlaceFaults, ExprFaults}
-use Rattle.arch_types.specs.Walk.{Known, known_type, may_write_among, TypedExpr, TypedPlace, deep}
+use Rattle.arch_types.specs.Body.{after, after_all, BecomesStmt, BecomesAll, Breaks, BreaksAll, Deeps, DeepsAll, Offends}
+use Rattle.arch_types.specs.Numbered.{Counts, bound_by, bound_by_all}
+use Rattle.arch_types.specs.Walk.{Known, known_type, may_write_among, TypedExpr, TypedPlace, deep, with_binders, Walked, AllWalked}
 
 abbrev pub IsKnown : Known → Target → Type 0
 IsKnown γ target.Param = Unit {0}
@@ -61,3 +64,42 @@ RightPlace Γ p (Err f) = IsFirst (PlaceFaults Γ p) f
 abbrev pub Told : Option High → Faults → Type 0
 Told None offends = IsClean offends
 Told (Some d) offends = IsFirst offends (deep d)
+
+-- ---- statements
+
+-- each name that there is has the type that it is known with, and no other
+pub record Knows (γ : Known) (has : Target → Ty → Type 0) : Type 0 where
+  pub even : length γ.writable ≡ length γ.binders
+  pub one : (x : Target) (t u : Ty) → has x t → has x u → t ≡ u
+  pub knows : (x : Target) → IsKnown γ x → has x (known_type γ x)
+
+-- what is known is what the relations see
+pub record Agrees (Γ : Env) (γ : Known) : Type 0 where
+  pub names : Γ.names ≡ γ.names
+  pub records : Γ.records ≡ γ.records
+  pub emitters : Γ.emitters ≡ γ.emitters
+  pub writable : (x : Target) → Γ.writable x ≡ may_write_among γ.writable x
+  pub bound : Γ.bound ≡ length γ.binders
+  pub has : Knows γ Γ.has
+
+-- so many records, and what else is known
+abbrev pub counts_of : ℕ → Known → Counts
+counts_of n γ = record { records = n; states = length γ.states; emitters = length γ.emitters; binders = length γ.binders }
+
+-- statements became a part of the checked tree, and bound so many names; nothing is wrong in them but heights
+pub record Ran (γ : Known) (binders : Fields) (writable : List Bool) (high : Option High) (count : ℕ) (later : Env) (becomes : Fields → Type 0) (breaks : Faults) (deeps : Faults) : Type 0 where
+  pub names : Fields
+  pub bound : binders ≡ γ.binders ++ names
+  pub counted : length names ≡ count
+  pub tree : becomes names
+  pub agrees : Agrees later (with_binders γ binders writable)
+  pub clean : IsClean breaks
+  pub told : Told high deeps
+
+abbrev pub RightStmt : Known → Env → RawStmt Link → Result Walked TypeFault → Type 0
+RightStmt γ Γ s (Ok d) = Ran γ d.binders d.writable d.high (bound_by s) (after Γ s) (λ names. BecomesStmt Γ s names d.tree) (λ f. Breaks Γ s f) (λ f. Deeps Γ s f)
+RightStmt γ Γ s (Err f) = IsFirst (λ g. Breaks Γ s g ⊎ Deeps Γ s g) f × (IsClean (λ g. Breaks Γ s g) → ⊥)
+
+abbrev pub RightAll : Known → Env → RawStmts Link → Result AllWalked TypeFault → Type 0
+RightAll γ Γ ss (Ok d) = Ran γ d.binders d.writable d.high (bound_by_all ss) (after_all Γ ss) (λ names. BecomesAll Γ ss names (stmts_of d.trees)) (λ f. BreaksAll Γ ss f) (λ f. DeepsAll Γ ss f)
+RightAll γ Γ ss (Err f) = IsFirst (Offends Γ ss) f × (IsClean (λ g. BreaksAll Γ ss g) → ⊥)
