@@ -13,3 +13,4 @@ pub mod Within
 pub mod Agreed
 pub mod StmtFirst
 pub mod BranchFirst
+pub mod StmtRight

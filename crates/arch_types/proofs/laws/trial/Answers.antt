@@ -1,6 +1,6 @@
 use Rattle.arch_types.proofs.DeepRows.{two_told}
 use Rattle.arch_types.proofs.Within.{offends_inside}
-use Rattle.arch_types.proofs.BranchFirst.{branch_right}
+use Rattle.arch_types.proofs.StmtRight.{right_all}
 use Rattle.arch_types.proofs.laws.trial.Goals as goal
 
 pub returns : goal.returns
