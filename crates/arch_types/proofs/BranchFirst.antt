@@ -17,18 +17,17 @@ use Rattle.arch_types.specs.Order.{Ascends, start_in, AscendsStmt, AscendsAll}
 use Rattle.arch_types.specs.Numbered.{bound_by_all}
 use Rattle.arch_types.specs.Walk.{Known, TypedExpr, and_then, tested, high_expr, earlier, first_high, behind, Walked, AllWalked, with_binders}
 use Rattle.arch_types.specs.Walk as walk
-use Rattle.arch_types.specs.Right.{env_with, Right, Told, Knows, RightStmt, RightAll}
+use Rattle.arch_types.specs.Right.{env_with, Right, IsOrdered, AreOrdered, Told, Knows, RightStmt, RightAll}
 use Rattle.arch_types.proofs.Same.{same_true}
 use Rattle.arch_types.proofs.Nodes.{unless_none, Spans}
-use Rattle.arch_types.proofs.Typing.{sound}
+use Rattle.arch_types.proofs.Typing.{one_expr, sound}
 use Rattle.arch_types.proofs.First.{one_child, one_type}
-use Rattle.arch_types.proofs.Sequence.{first_left, told_both, told_first, told_deep, first_of_same, told_same}
+use Rattle.arch_types.proofs.Sequence.{first_left, told_both, told_first, told_within, told_deep, first_of_same, told_same}
 use Rattle.arch_types.proofs.DeepRows.{one_clean}
-use Rattle.arch_types.proofs.Within.{One, one_after_all, expr_begins, list_begins, wants_at, test_row, test_spans, all_offends_inside}
+use Rattle.arch_types.proofs.Within.{expr_begins, list_begins, wants_at, test_row, test_spans, test_ones, all_offends_inside}
 use Rattle.arch_types.proofs.StmtFirst.{joined_bound, joined_count}
 
-module _ (γ : Known) (has : Target → Ty → Type 0) (k : Knows γ has) (at : ℕ) (c : RawExpr Link) (then_at : ℕ) (a : RawStmts Link) (else_at : ℕ) (b : RawStmts Link) (bound : ℕ)
-    (o : AscendsStmt (branch at c then_at a else_at b) bound) where
+module _ (γ : Known) (has : Target → Ty → Type 0) (k : Knows γ has) (at : ℕ) (c : RawExpr Link) (then_at : ℕ) (a : RawStmts Link) (else_at : ℕ) (b : RawStmts Link) where
   abbrev Γ : Env
   Γ = env_with γ has
 
@@ -53,81 +52,83 @@ module _ (γ : Known) (has : Target → Ty → Type 0) (k : Knows γ has) (at : 
   abbrev all : Faults
   all f = Breaks Γ whole f ⊎ Deeps Γ whole f
 
-  left_after : (f : TypeFault) → in_left f → then_at < offset f
-  left_after f x = let s = (all_offends_inside a Γ else_at o.3 k.one f x).from in let l = o.2 in omega arith
+  module _ (bound : ℕ) (o : AscendsStmt whole bound) where
+    left_after : (f : TypeFault) → in_left f → then_at < offset f
+    left_after f x = let s = (all_offends_inside a Γ else_at o.3 f x).from in let l = o.2 in omega arith
 
-  left_before : (f : TypeFault) → in_left f → offset f < else_at
-  left_before f x = (all_offends_inside a Γ else_at o.3 k.one f x).below
+    left_before : (f : TypeFault) → in_left f → offset f < else_at
+    left_before f x = (all_offends_inside a Γ else_at o.3 f x).below
 
-  right_after : (f : TypeFault) → in_right f → else_at < offset f
-  right_after f x = let s = (all_offends_inside b Δ bound o.5 (one_after_all a Γ else_at o.3 k.one) f x).from in let l = o.4 in omega arith
+    right_after : (f : TypeFault) → in_right f → else_at < offset f
+    right_after f x = let s = (all_offends_inside b Δ bound o.5 f x).from in let l = o.4 in omega arith
 
-  between : then_at < else_at
-  between = let l = o.2 in let m = list_begins a else_at o.3 in omega arith
+    between : then_at < else_at
+    between = let l = o.2 in let m = list_begins a else_at o.3 in omega arith
 
-  test_before : C < then_at
-  test_before = expr_begins c then_at o.1
+    test_before : C < then_at
+    test_before = expr_begins c then_at o.1
 
-  test_below : (f : TypeFault) → at_test f → offset f < then_at
-  test_below f x = let e : offset f ≡ C = ap offset x.3 in let l = test_before in omega arith
+    test_below : (f : TypeFault) → at_test f → offset f < then_at
+    test_below f x = let e : offset f ≡ C = ap offset x.3 in let l = test_before in omega arith
 
-  -- ---- a fault in the test
+    -- ---- a fault in the test
 
-  test_least : (f : TypeFault) → IsFirst (ExprFaults Γ c) f → (g : TypeFault) → all g → (g ≡ f) ⊎ (offset f < offset g)
-  test_least f p g h =
-      let l = ((sound Γ k.one c then_at o.1).within f p.is_one).below in let m = between in elim h [
-        | inl x ↦ elim x [
-          | inl y ↦ p.least g y
-          | inr y ↦ elim y [
-            | inl z ↦ let i = left_after g (inl z) in inr (omega arith)
-            | inr z ↦ elim z [
-              | inl w ↦ let i = right_after g (inl w) in inr (omega arith)
-              | inr w ↦ (one_child (expr_child Γ c) (wants Γ C (exactly (scalar is.Bool))) then_at (test_spans Γ k.one c then_at o.1) f p).least g w.2
+    test_least : (f : TypeFault) → IsFirst (ExprFaults Γ c) f → (g : TypeFault) → all g → (g ≡ f) ⊎ (offset f < offset g)
+    test_least f p g h =
+        let l = ((sound Γ c then_at o.1).within f p.is_one).below in let m = between in elim h [
+          | inl x ↦ elim x [
+            | inl y ↦ p.least g y
+            | inr y ↦ elim y [
+              | inl z ↦ let i = left_after g (inl z) in inr (omega arith)
+              | inr z ↦ elim z [
+                | inl w ↦ let i = right_after g (inl w) in inr (omega arith)
+                | inr w ↦ (one_child (expr_child Γ c) (wants Γ C (exactly (scalar is.Bool))) then_at (test_spans Γ c then_at o.1) (test_ones Γ k.one c) f p).least g w.2
+              ]
+            ]
+          ]
+          | inr x ↦ elim x [
+            | inl y ↦ absurd (y.1 f p.is_one)
+            | inr y ↦ elim y [
+              | inl z ↦ let i = left_after g (inr z) in inr (omega arith)
+              | inr z ↦ let i = right_after g (inr z) in inr (omega arith)
             ]
           ]
         ]
-        | inr x ↦ elim x [
-          | inl y ↦ absurd (y.1 f p.is_one)
-          | inr y ↦ elim y [
-            | inl z ↦ let i = left_after g (inr z) in inr (omega arith)
-            | inr z ↦ let i = right_after g (inr z) in inr (omega arith)
-          ]
-        ]
-      ]
 
-  test_offends : (f : TypeFault) → IsFirst (ExprFaults Γ c) f → RightStmt γ Γ whole (Err f)
-  test_offends f p = (record { is_one = inl (inl p.is_one); least = test_least f p }, λ n. n f (inl p.is_one))
+    test_offends : (f : TypeFault) → IsFirst (ExprFaults Γ c) f → IsFirst all f × (IsClean (λ g. Breaks Γ whole g) → ⊥)
+    test_offends f p = (record { is_one = inl (inl p.is_one); least = test_least f p }, λ n. n f (inl p.is_one))
 
   -- ---- the test has a type
 
   module _ (x : TypedExpr) (typed : Becomes Γ c x.ty x.tree) where
     no_fault : IsClean (ExprFaults Γ c)
-    no_fault f h = (sound Γ k.one c then_at o.1).clean x.ty f (x.tree, typed) h
+    no_fault f h = (one_expr Γ k.one c).clean x.ty f (x.tree, typed) h
 
     -- where a branch breaks, nothing is wrong at the test but its height
-    module _ (broken : IsClean (λ g. BreaksAll Γ a g) → IsClean (λ g. BreaksAll Δ b g) → ⊥) where
+    module _ (bound : ℕ) (o : AscendsStmt whole bound) (broken : IsClean (λ g. BreaksAll Γ a g) → IsClean (λ g. BreaksAll Δ b g) → ⊥) where
       not_at_test : (g : TypeFault) → Breaks Γ whole g → offset g ≡ C → ⊥
-      not_at_test g h e = let l = test_before in let m = between in elim h [
+      not_at_test g h e = let l = test_before bound o in let m = between bound o in elim h [
         | inl y ↦ no_fault g y
         | inr y ↦ elim y [
-          | inl z ↦ let i = left_after g (inl z) in omega arith
+          | inl z ↦ let i = left_after bound o g (inl z) in omega arith
           | inr z ↦ elim z [
-            | inl w ↦ let i = right_after g (inl w) in omega arith
+            | inl w ↦ let i = right_after bound o g (inl w) in omega arith
             | inr w ↦ broken w.0 w.1
           ]
         ]
       ]
 
-      told_test : Told (high_expr c) at_test
-      told_test = told_deep (expr_child Γ c) (height c) (Breaks Γ whole) no_fault not_at_test
+      told_test : Told (Unit {0}) (high_expr c) at_test
+      told_test = told_deep (Unit {0}) (expr_child Γ c) (height c) (Breaks Γ whole) no_fault (λ u. not_at_test)
 
     left_offends : (f : TypeFault) → RightAll γ Γ a (Err f) → RightStmt γ Γ whole (Err (earlier (high_expr c) f))
-    left_offends f (p, n) =
+    left_offends f h (bound, o) =
+        let p = (h (else_at, o.3)).0 in let n = (h (else_at, o.3)).1 in
         let broken = λ (y : IsClean (λ g. BreaksAll Γ a g)) (z : IsClean (λ g. BreaksAll Δ b g)). n y in
-        let rest = first_left in_left in_right f else_at p (left_before f p.is_one) (λ g y. let l = right_after g y in omega arith) in
-        let l = left_after f p.is_one in let m = between in
-        let first = told_first at_test (λ g. in_left g ⊎ in_right g) (high_expr c) f then_at (told_test broken) rest (omega arith) test_below
-            (λ g y. elim y [ inl z ↦ (let i = left_after g z in omega arith) | inr z ↦ (let i = right_after g z in omega arith) ]) in
+        let rest = first_left in_left in_right f else_at p (left_before bound o f p.is_one) (λ g y. let l = right_after bound o g y in omega arith) in
+        let l = left_after bound o f p.is_one in let m = between bound o in
+        let first = told_first (Unit {0}) at_test (λ g. in_left g ⊎ in_right g) (high_expr c) f then_at (told_test bound o broken) (tt {0}) rest (omega arith) (test_below bound o)
+            (λ g y. elim y [ inl z ↦ (let i = left_after bound o g z in omega arith) | inr z ↦ (let i = right_after bound o g z in omega arith) ]) in
         (first_of_same (λ g. at_test g ⊎ (in_left g ⊎ in_right g)) all (earlier (high_expr c) f)
         (λ g y. elim y [
           | inl z ↦ inr (inl z)
@@ -159,17 +160,20 @@ module _ (γ : Known) (has : Target → Ty → Type 0) (k : Knows γ has) (at : 
       abbrev so_far : Faults
       so_far f = at_test f ⊎ DeepsAll Γ a f
 
-      so_far_below : (g : TypeFault) → so_far g → offset g < else_at
-      so_far_below g y = let m = between in elim y [ inl z ↦ (let i = test_below g z in omega arith) | inr z ↦ left_before g (inr z) ]
+      so_far_below : (bound : ℕ) (o : AscendsStmt whole bound) (g : TypeFault) → so_far g → offset g < else_at
+      so_far_below bound o g y = let m = between bound o in elim y [ inl z ↦ (let i = test_below bound o g z in omega arith) | inr z ↦ left_before bound o g (inr z) ]
 
-      told_so_far : Told (high_expr c) at_test → Told high so_far
-      told_so_far t = told_both at_test (λ g. DeepsAll Γ a g) (high_expr c) l.high then_at t left.told test_below (λ g y. let i = left_after g (inr y) in omega arith)
+      told_so_far : (O : Type 0) → (O → IsOrdered whole) → Told O (high_expr c) at_test → Told O high so_far
+      told_so_far O order t =
+          told_both O at_test (λ g. DeepsAll Γ a g) (high_expr c) l.high then_at t (told_within (AreOrdered a) O (λ g. DeepsAll Γ a g) l.high (λ u. (else_at, (order u).1.3)) left.told)
+          (λ u. test_below (order u).0 (order u).1) (λ u g y. let i = left_after (order u).0 (order u).1 g (inr y) in omega arith)
 
       right_offends : (f : TypeFault) → RightAll (with_binders γ l.binders l.writable) Δ b (Err f) → RightStmt γ Γ whole (Err (earlier high f))
-      right_offends f (p, n) =
+      right_offends f h (bound, o) =
+          let p = (h (bound, o.5)).0 in let n = (h (bound, o.5)).1 in
           let broken = λ (y : IsClean (λ g. BreaksAll Γ a g)) (z : IsClean (λ g. BreaksAll Δ b g)). n z in
-          let i = right_after f p.is_one in
-          let first = told_first so_far in_right high f else_at (told_so_far (told_test broken)) p (omega arith) so_far_below (λ g y. let j = right_after g y in omega arith) in
+          let i = right_after bound o f p.is_one in
+          let first = told_first (Unit {0}) so_far in_right high f else_at (told_so_far (Unit {0}) (λ u. (bound, o)) (told_test bound o broken)) (tt {0}) p (omega arith) (so_far_below bound o) (λ g y. let j = right_after bound o g y in omega arith) in
           (first_of_same (λ g. so_far g ⊎ in_right g) all (earlier high f)
           (λ g y. elim y [
             | inl z ↦ elim z [ inl w ↦ inr (inl w) | inr w ↦ inr (inr (inl w)) ]
@@ -192,10 +196,10 @@ module _ (γ : Known) (has : Target → Ty → Type 0) (k : Knows γ has) (at : 
           λ w. n (λ g y. w g (inr (inr (inl y)))))
 
       module _ (r : AllWalked) (next : RightAll (with_binders γ l.binders l.writable) Δ b (Ok r)) where
-        mismatch_least : (f : TypeFault) → misfit γ.names C (exactly (scalar is.Bool)) x.ty ≡ Some f → (g : TypeFault) → all g → (g ≡ f) ⊎ (offset f < offset g)
-        mismatch_least f e g h =
-            let p = one_type (expr_child Γ c) (wants Γ C (exactly (scalar is.Bool))) then_at (test_spans Γ k.one c then_at o.1) x.ty f (x.tree, typed) e in
-            let i = wants_at Γ C (exactly (scalar is.Bool)) none_before x.ty f e in let m = between in let q = test_before in elim h [
+        mismatch_least : (bound : ℕ) (o : AscendsStmt whole bound) (f : TypeFault) → misfit γ.names C (exactly (scalar is.Bool)) x.ty ≡ Some f → (g : TypeFault) → all g → (g ≡ f) ⊎ (offset f < offset g)
+        mismatch_least bound o f e g h =
+            let p = one_type (expr_child Γ c) (wants Γ C (exactly (scalar is.Bool))) then_at (test_spans Γ c then_at o.1) (test_ones Γ k.one c) x.ty f (x.tree, typed) e in
+            let i = wants_at Γ C (exactly (scalar is.Bool)) none_before x.ty f e in let m = between bound o in let q = test_before bound o in elim h [
               | inl y ↦ elim y [
                 | inl z ↦ absurd (no_fault g z)
                 | inr z ↦ elim z [
@@ -206,21 +210,21 @@ module _ (γ : Known) (has : Target → Ty → Type 0) (k : Knows γ has) (at : 
               | inr y ↦ elim y [
                 | inl z ↦ absurd (z.2 f (inr (inr (inr (left.clean, next.clean, p.is_one)))) i)
                 | inr z ↦ elim z [
-                  | inl w ↦ let j = left_after g (inr w) in inr (omega arith)
-                  | inr w ↦ let j = right_after g (inr w) in inr (omega arith)
+                  | inl w ↦ let j = left_after bound o g (inr w) in inr (omega arith)
+                  | inr w ↦ let j = right_after bound o g (inr w) in inr (omega arith)
                 ]
               ]
             ]
 
         branch_tests : (m : Option TypeFault) → misfit γ.names C (exactly (scalar is.Bool)) x.ty ≡ m
             → RightStmt γ Γ whole (tested m (Ok (record { high = first_high high r.high; tree = tree.branch x.tree (stmts_of l.trees) (stmts_of r.trees); binders = r.binders; writable = r.writable })))
-        branch_tests (Some f) e =
-            let p = one_type (expr_child Γ c) (wants Γ C (exactly (scalar is.Bool))) then_at (test_spans Γ k.one c then_at o.1) x.ty f (x.tree, typed) e in
+        branch_tests (Some f) e = λ w. let bound = w.0 in let o = w.1 in
+            let p = one_type (expr_child Γ c) (wants Γ C (exactly (scalar is.Bool))) then_at (test_spans Γ c then_at o.1) (test_ones Γ k.one c) x.ty f (x.tree, typed) e in
             let y : Breaks Γ whole f = inr (inr (inr (left.clean, next.clean, p.is_one))) in
-            (record { is_one = inl y; least = mismatch_least f e }, λ w. w f y)
+            (record { is_one = inl y; least = mismatch_least bound o f e }, λ w. w f y)
         branch_tests None e =
             let u = same_true (scalar is.Bool) x.ty (unless_none (same (scalar is.Bool) x.ty) _ e) in
-            let n = one_clean (expr_child Γ c) (wants Γ C (exactly (scalar is.Bool))) then_at (test_spans Γ k.one c then_at o.1) (height c) x.ty (x.tree, typed) e in
+            let n = one_clean (expr_child Γ c) (wants Γ C (exactly (scalar is.Bool))) (test_ones Γ k.one c) (height c) x.ty (x.tree, typed) e in
             let clean : IsClean (λ g. Breaks Γ whole g) = λ g y. elim y [
               | inl z ↦ no_fault g z
               | inr z ↦ elim z [
@@ -234,12 +238,13 @@ module _ (γ : Known) (has : Target → Ty → Type 0) (k : Knows γ has) (at : 
               tree = (x.tree, left.names, next.names, stmts_of l.trees, stmts_of r.trees, subst (λ t. Becomes Γ c t x.tree) (sym u) typed, left.tree, next.tree, refl, refl);
               agrees = next.agrees;
               clean = clean;
-              told = told_same (λ g. so_far g ⊎ DeepsAll Δ b g) (λ g. Deeps Γ whole g) (first_high high r.high)
+              told = told_same (IsOrdered whole) (λ g. so_far g ⊎ DeepsAll Δ b g) (λ g. Deeps Γ whole g) (first_high high r.high)
                   (λ g y. elim y [ inl z ↦ elim z [ inl w ↦ inl w | inr w ↦ inr (inl w) ] | inr z ↦ inr (inr z) ])
                   (λ g y. elim y [ inl z ↦ inl (inl z) | inr z ↦ elim z [ inl w ↦ inl (inr w) | inr w ↦ inr w ] ])
-                  (told_both so_far (λ g. DeepsAll Δ b g) high r.high else_at
-                  (told_so_far (told_deep (expr_child Γ c) (height c) (Breaks Γ whole) no_fault (λ g y i. clean g y)))
-                  next.told so_far_below (λ g y. let j = right_after g (inr y) in omega arith));
+                  (told_both (IsOrdered whole) so_far (λ g. DeepsAll Δ b g) high r.high else_at
+                  (told_so_far (IsOrdered whole) (λ u. u) (told_deep (IsOrdered whole) (expr_child Γ c) (height c) (Breaks Γ whole) no_fault (λ u g y i. clean g y)))
+                  (told_within (AreOrdered b) (IsOrdered whole) (λ g. DeepsAll Δ b g) r.high (λ u. (u.0, u.1.5)) next.told)
+                  (λ u. so_far_below u.0 u.1) (λ u g y. let j = right_after u.0 u.1 g (inr y) in omega arith));
             }
 
       right_right : (r : Result AllWalked TypeFault) → RightAll (with_binders γ l.binders l.writable) Δ b r → RightStmt γ Γ whole (and_then (behind high r) (λ w. walk.branch_row γ.names c x high l.trees w))
@@ -255,5 +260,5 @@ module _ (γ : Known) (has : Target → Ty → Type 0) (k : Knows γ has) (at : 
   pub branch_right : (x : Result TypedExpr TypeFault) (l : Result AllWalked TypeFault) (next : AllWalked → Result AllWalked TypeFault) → Right Γ c x → RightAll γ Γ a l
       → ((w : AllWalked) → RightAll γ Γ a (Ok w) → RightAll (with_binders γ w.binders w.writable) Δ b (next w))
       → RightStmt γ Γ whole (and_then x (λ x. and_then (behind (high_expr c) l) (λ w. and_then (behind (first_high (high_expr c) w.high) (next w)) (λ r. walk.branch_row γ.names c x (first_high (high_expr c) w.high) w.trees r))))
-  branch_right (Err f) l next h g later = test_offends f h
+  branch_right (Err f) l next h g later = λ o. test_offends o.0 o.1 f (h then_at o.1.1)
   branch_right (Ok x) l next h g later = left_right x h l next g later

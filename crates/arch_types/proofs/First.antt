@@ -24,8 +24,8 @@ use Rattle.arch_types.specs.Order.{AscendsPlace, Ascends}
 use Rattle.arch_types.specs.Walk.{Known, known_type, TypedExpr, TypedPlace, typed, typed_place, scalar_in, and_then, tested, literal, un_row, bin_row, choose_row, cast_row, get_row, index_row, field_found}
 use Rattle.arch_types.specs.Right.{env_with, Uses, UsesPlace, Right, RightPlace}
 use Rattle.arch_types.proofs.Same.{same_true}
-use Rattle.arch_types.proofs.Nodes.{IsSound, Spans, first_child, next_child, in_children, first_miss, next_miss, in_types, unless_none}
-use Rattle.arch_types.proofs.Typing.{applies_wanted, applies_wanted_one, get_children, index_children, un_children, bin_children, choose_children, cast_children, get_spans, index_spans, un_spans, bin_spans, choose_spans, cast_spans, sound, sound_place}
+use Rattle.arch_types.proofs.Nodes.{IsOne, Ones, IsSound, Spans, first_child, next_child, in_children, first_miss, next_miss, in_types, unless_none}
+use Rattle.arch_types.proofs.Typing.{applies_wanted, applies_wanted_one, get_children, index_children, un_children, bin_children, choose_children, cast_children, get_spans, index_spans, un_spans, bin_spans, choose_spans, cast_spans, type_one, one_place, one_expr, sound, sound_place}
 
 pub scalar_wanted : (o : BinOp) (t : Ty) → fulfils (wanted o) t ≡ true → t ≡ scalar (scalar_in t)
 scalar_wanted op.Add (scalar s) h = refl
@@ -89,69 +89,69 @@ any_scalar (record_type r) h = absurd (false≢true h)
 
 -- ---- the first fault of a row of one, two or three children
 
-module _ (c : Child) (test : Test) (bound : ℕ) (s : Spans (child c test end) bound) where
+module _ (c : Child) (test : Test) (bound : ℕ) (s : Spans (child c test end) bound) (ones : Ones (child c test end)) where
   pub one_child : (f : TypeFault) → IsFirst c.faults f → IsFirst (Node (child c test end)) f
-  one_child f p = in_children (child c test end) bound f s (first_child c test end bound f s p)
+  one_child f p = in_children (child c test end) f ones (first_child c test end bound f s p)
 
   pub one_type : (t : Ty) (f : TypeFault) → c.has t → test none_before t ≡ Some f → IsFirst (Node (child c test end)) f
-  one_type t f h e = in_types (child c test end) (t ∷ []) bound f s (h, tt {0}) (first_miss none_before c test end bound t [] f s e)
+  one_type t f h e = in_types (child c test end) (t ∷ []) f ones (h, tt {0}) (first_miss none_before c test end bound t [] f s e)
 
-module _ (c d : Child) (test last : Test) (bound : ℕ) (s : Spans (child c test (child d last end)) bound) where
+module _ (c d : Child) (test last : Test) (bound : ℕ) (s : Spans (child c test (child d last end)) bound) (ones : Ones (child c test (child d last end))) where
   pub two_first : (f : TypeFault) → IsFirst c.faults f → IsFirst (Node (child c test (child d last end))) f
-  two_first f p = in_children (child c test (child d last end)) bound f s (first_child c test (child d last end) bound f s p)
+  two_first f p = in_children (child c test (child d last end)) f ones (first_child c test (child d last end) bound f s p)
 
   pub two_second : (t : Ty) (f : TypeFault) → c.has t → IsFirst d.faults f → IsFirst (Node (child c test (child d last end))) f
-  two_second t f h p = in_children (child c test (child d last end)) bound f s (next_child c test (child d last end) f (λ g x. s.0.clean t g h x) (first_child d last end bound f s.2 p))
+  two_second t f h p = in_children (child c test (child d last end)) f ones (next_child c test (child d last end) f (λ g x. ones.0.clean t g h x) (first_child d last end bound f s.2 p))
 
   pub two_third : (t u : Ty) (f : TypeFault) → c.has t → d.has u → test none_before t ≡ Some f → IsFirst (Node (child c test (child d last end))) f
-  two_third t u f h k e = in_types (child c test (child d last end)) (t ∷ u ∷ []) bound f s (h, (k, tt {0})) (first_miss none_before c test (child d last end) bound t (u ∷ []) f s e)
+  two_third t u f h k e = in_types (child c test (child d last end)) (t ∷ u ∷ []) f ones (h, (k, tt {0})) (first_miss none_before c test (child d last end) bound t (u ∷ []) f s e)
 
   pub two_fourth : (t u : Ty) (f : TypeFault) → c.has t → d.has u → test none_before t ≡ None → last t u ≡ Some f → IsFirst (Node (child c test (child d last end))) f
-  two_fourth t u f h k e i = in_types (child c test (child d last end)) (t ∷ u ∷ []) bound f s (h, (k, tt {0})) (next_miss none_before c test (child d last end) t (u ∷ []) f e (first_miss t d last end bound u [] f s.2 i))
+  two_fourth t u f h k e i = in_types (child c test (child d last end)) (t ∷ u ∷ []) f ones (h, (k, tt {0})) (next_miss none_before c test (child d last end) t (u ∷ []) f e (first_miss t d last end bound u [] f s.2 i))
 
-module _ (b c d : Child) (first test last : Test) (bound : ℕ) (s : Spans (child b first (child c test (child d last end))) bound) where
+module _ (b c d : Child) (first test last : Test) (bound : ℕ) (s : Spans (child b first (child c test (child d last end))) bound) (ones : Ones (child b first (child c test (child d last end)))) where
   abbrev three : Row
   three = child b first (child c test (child d last end))
 
   three_first : (f : TypeFault) → IsFirst b.faults f → IsFirst (Node three) f
-  three_first f p = in_children three bound f s (first_child b first (child c test (child d last end)) bound f s p)
+  three_first f p = in_children three f ones (first_child b first (child c test (child d last end)) bound f s p)
 
   three_second : (r : Ty) (f : TypeFault) → b.has r → IsFirst c.faults f → IsFirst (Node three) f
-  three_second r f g p = in_children three bound f s (next_child b first (child c test (child d last end)) f (λ v x. s.0.clean r v g x) (first_child c test (child d last end) bound f s.2 p))
+  three_second r f g p = in_children three f ones (next_child b first (child c test (child d last end)) f (λ v x. ones.0.clean r v g x) (first_child c test (child d last end) bound f s.2 p))
 
   three_third : (r t : Ty) (f : TypeFault) → b.has r → c.has t → IsFirst d.faults f → IsFirst (Node three) f
-  three_third r t f g h p = in_children three bound f s (next_child b first (child c test (child d last end)) f (λ v x. s.0.clean r v g x)
-      (next_child c test (child d last end) f (λ v x. s.2.0.clean t v h x) (first_child d last end bound f s.2.2 p)))
+  three_third r t f g h p = in_children three f ones (next_child b first (child c test (child d last end)) f (λ v x. ones.0.clean r v g x)
+      (next_child c test (child d last end) f (λ v x. ones.1.0.clean t v h x) (first_child d last end bound f s.2.2 p)))
 
   module _ (r t u : Ty) (f : TypeFault) (g : b.has r) (h : c.has t) (k : d.has u) where
     three_fourth : first none_before r ≡ Some f → IsFirst (Node three) f
-    three_fourth e = in_types three (r ∷ t ∷ u ∷ []) bound f s (g, (h, (k, tt {0}))) (first_miss none_before b first (child c test (child d last end)) bound r (t ∷ u ∷ []) f s e)
+    three_fourth e = in_types three (r ∷ t ∷ u ∷ []) f ones (g, (h, (k, tt {0}))) (first_miss none_before b first (child c test (child d last end)) bound r (t ∷ u ∷ []) f s e)
 
     three_fifth : first none_before r ≡ None → test r t ≡ Some f → IsFirst (Node three) f
-    three_fifth e i = in_types three (r ∷ t ∷ u ∷ []) bound f s (g, (h, (k, tt {0}))) (next_miss none_before b first (child c test (child d last end)) r (t ∷ u ∷ []) f e
+    three_fifth e i = in_types three (r ∷ t ∷ u ∷ []) f ones (g, (h, (k, tt {0}))) (next_miss none_before b first (child c test (child d last end)) r (t ∷ u ∷ []) f e
         (first_miss r c test (child d last end) bound t (u ∷ []) f s.2 i))
 
     three_sixth : first none_before r ≡ None → test r t ≡ None → last t u ≡ Some f → IsFirst (Node three) f
-    three_sixth e i j = in_types three (r ∷ t ∷ u ∷ []) bound f s (g, (h, (k, tt {0}))) (next_miss none_before b first (child c test (child d last end)) r (t ∷ u ∷ []) f e
+    three_sixth e i j = in_types three (r ∷ t ∷ u ∷ []) f ones (g, (h, (k, tt {0}))) (next_miss none_before b first (child c test (child d last end)) r (t ∷ u ∷ []) f e
         (next_miss r c test (child d last end) t (u ∷ []) f i (first_miss t d last end bound u [] f s.2.2 j)))
 
 module _ (γ : Known) (has : Target → Ty → Type 0) where
   abbrev Γ : Env
   Γ = env_with γ has
 
-  module _ (op : UnOp) (at : ℕ) (a : RawExpr Link) (bound : ℕ) (s : Spans (un_children Γ op a) bound) where
+  module _ (op : UnOp) (at : ℕ) (a : RawExpr Link) (ones : Ones (un_children Γ op a)) (s : (end : ℕ) → Ascends (un at op a) end → Spans (un_children Γ op a) end) where
     un_tests : (x : TypedExpr) → Becomes Γ a x.ty x.tree → (m : Option TypeFault) → misfit γ.names (expr_offset link_offset a) (wanted_one op) x.ty ≡ m
         → Right Γ (un at op a) (tested m (Ok (record { ty = x.ty; tree = tree.un op (scalar_in x.ty) x.tree })))
-    un_tests x h (Some f) e = one_type (expr_child Γ a) (wants Γ (expr_offset link_offset a) (wanted_one op)) bound s x.ty f (x.tree, h) e
+    un_tests x h (Some f) e = λ bound o. one_type (expr_child Γ a) (wants Γ (expr_offset link_offset a) (wanted_one op)) bound (s bound o) ones x.ty f (x.tree, h) e
     un_tests x h None e =
         let i = unless_none (fulfils (wanted_one op) x.ty) _ e in let k = scalar_wanted_one op x.ty i in
         (scalar_in x.ty, x.tree, subst (λ t. Becomes Γ a t x.tree) k h, sym (applies_wanted_one op (scalar_in x.ty)) ∙ ap (fulfils (wanted_one op)) (sym k) ∙ i, k, refl)
 
     un_right : (r : Result TypedExpr TypeFault) → Right Γ a r → Right Γ (un at op a) (and_then r (λ x. un_row γ.names op (expr_offset link_offset a) x))
-    un_right (Err f) h = one_child (expr_child Γ a) (wants Γ (expr_offset link_offset a) (wanted_one op)) bound s f h
+    un_right (Err f) h = λ bound o. one_child (expr_child Γ a) (wants Γ (expr_offset link_offset a) (wanted_one op)) bound (s bound o) ones f (h bound o.1)
     un_right (Ok x) h = un_tests x h (misfit γ.names (expr_offset link_offset a) (wanted_one op) x.ty) refl
 
-  module _ (op : BinOp) (at : ℕ) (a b : RawExpr Link) (bound : ℕ) (s : Spans (bin_children Γ op a b) bound) where
+  module _ (op : BinOp) (at : ℕ) (a b : RawExpr Link) (ones : Ones (bin_children Γ op a b)) (s : (end : ℕ) → Ascends (bin at op a b) end → Spans (bin_children Γ op a b) end) where
     abbrev A : ℕ
     A = expr_offset link_offset a
 
@@ -160,8 +160,8 @@ module _ (γ : Known) (has : Target → Ty → Type 0) where
 
     bin_tests : (x y : TypedExpr) → Becomes Γ a x.ty x.tree → Becomes Γ b y.ty y.tree → (m n : Option TypeFault) → misfit γ.names A (wanted op) x.ty ≡ m → misfit γ.names B (exactly x.ty) y.ty ≡ n
         → Right Γ (bin at op a b) (tested m (tested n (Ok (record { ty = scalar (binary_scalar op (scalar_in x.ty)); tree = tree.bin op (scalar_in x.ty) x.tree y.tree }))))
-    bin_tests x y h k (Some f) n i j = two_third (expr_child Γ a) (expr_child Γ b) (wants Γ A (wanted op)) (like_the_first Γ B) bound s x.ty y.ty f (x.tree, h) (y.tree, k) i
-    bin_tests x y h k None (Some f) i j = two_fourth (expr_child Γ a) (expr_child Γ b) (wants Γ A (wanted op)) (like_the_first Γ B) bound s x.ty y.ty f (x.tree, h) (y.tree, k) i j
+    bin_tests x y h k (Some f) n i j = λ bound o. two_third (expr_child Γ a) (expr_child Γ b) (wants Γ A (wanted op)) (like_the_first Γ B) bound (s bound o) ones x.ty y.ty f (x.tree, h) (y.tree, k) i
+    bin_tests x y h k None (Some f) i j = λ bound o. two_fourth (expr_child Γ a) (expr_child Γ b) (wants Γ A (wanted op)) (like_the_first Γ B) bound (s bound o) ones x.ty y.ty f (x.tree, h) (y.tree, k) i j
     bin_tests x y h k None None i j =
         let u = unless_none (fulfils (wanted op) x.ty) _ i in let v = scalar_wanted op x.ty u in let w = same_true x.ty y.ty (unless_none (same x.ty y.ty) _ j) in (
           scalar_in x.ty,
@@ -175,11 +175,11 @@ module _ (γ : Known) (has : Target → Ty → Type 0) where
         )
 
     bin_right : (r q : Result TypedExpr TypeFault) → Right Γ a r → Right Γ b q → Right Γ (bin at op a b) (and_then r (λ x. and_then q (λ y. bin_row γ.names op A x B y)))
-    bin_right (Err f) q h k = two_first (expr_child Γ a) (expr_child Γ b) (wants Γ A (wanted op)) (like_the_first Γ B) bound s f h
-    bin_right (Ok x) (Err f) h k = two_second (expr_child Γ a) (expr_child Γ b) (wants Γ A (wanted op)) (like_the_first Γ B) bound s x.ty f (x.tree, h) k
+    bin_right (Err f) q h k = λ bound o. two_first (expr_child Γ a) (expr_child Γ b) (wants Γ A (wanted op)) (like_the_first Γ B) bound (s bound o) ones f (h B o.1)
+    bin_right (Ok x) (Err f) h k = λ bound o. two_second (expr_child Γ a) (expr_child Γ b) (wants Γ A (wanted op)) (like_the_first Γ B) bound (s bound o) ones x.ty f (x.tree, h) (k bound o.2)
     bin_right (Ok x) (Ok y) h k = bin_tests x y h k (misfit γ.names A (wanted op) x.ty) (misfit γ.names B (exactly x.ty) y.ty) refl refl
 
-  module _ (at : ℕ) (u : RawType Link) (a : RawExpr Link) (bound : ℕ) (s : Spans (cast_children Γ u a) bound) where
+  module _ (at : ℕ) (u : RawType Link) (a : RawExpr Link) (ones : Ones (cast_children Γ u a)) (s : (end : ℕ) → Ascends (cast at u a) end → Spans (cast_children Γ u a) end) where
     abbrev T : ℕ
     T = type_offset link_offset u
 
@@ -188,18 +188,18 @@ module _ (γ : Known) (has : Target → Ty → Type 0) where
 
     cast_tests : (x : TypedExpr) → Becomes Γ a x.ty x.tree → (m n : Option TypeFault) → misfit γ.names T a_number (type_of u) ≡ m → misfit γ.names C a_number x.ty ≡ n
         → Right Γ (cast at u a) (tested m (tested n (Ok (record { ty = type_of u; tree = tree.cast (scalar_in (type_of u)) x.tree }))))
-    cast_tests x h (Some f) n i j = two_third (type_child u) (expr_child Γ a) (wants Γ T a_number) (wants Γ C a_number) bound s (type_of u) x.ty f refl (x.tree, h) i
-    cast_tests x h None (Some f) i j = two_fourth (type_child u) (expr_child Γ a) (wants Γ T a_number) (wants Γ C a_number) bound s (type_of u) x.ty f refl (x.tree, h) i j
+    cast_tests x h (Some f) n i j = λ bound o. two_third (type_child u) (expr_child Γ a) (wants Γ T a_number) (wants Γ C a_number) bound (s bound o) ones (type_of u) x.ty f refl (x.tree, h) i
+    cast_tests x h None (Some f) i j = λ bound o. two_fourth (type_child u) (expr_child Γ a) (wants Γ T a_number) (wants Γ C a_number) bound (s bound o) ones (type_of u) x.ty f refl (x.tree, h) i j
     cast_tests x h None None i j =
         let p = unless_none (fulfils a_number (type_of u)) _ i in let v = number_scalar (type_of u) p in
         let q = unless_none (fulfils a_number x.ty) _ j in let w = number_scalar x.ty q in
         (scalar_in (type_of u), scalar_in x.ty, x.tree, v, ap (fulfils a_number) (sym v) ∙ p, subst (λ t. Becomes Γ a t x.tree) w h, ap (fulfils a_number) (sym w) ∙ q, v, refl)
 
     cast_right : (r : Result TypedExpr TypeFault) → Right Γ a r → Right Γ (cast at u a) (and_then r (λ x. cast_row γ.names T (type_of u) C x))
-    cast_right (Err f) h = two_second (type_child u) (expr_child Γ a) (wants Γ T a_number) (wants Γ C a_number) bound s (type_of u) f refl h
+    cast_right (Err f) h = λ bound o. two_second (type_child u) (expr_child Γ a) (wants Γ T a_number) (wants Γ C a_number) bound (s bound o) ones (type_of u) f refl (h bound o.2)
     cast_right (Ok x) h = cast_tests x h (misfit γ.names T a_number (type_of u)) (misfit γ.names C a_number x.ty) refl refl
 
-  module _ (at : ℕ) (c a b : RawExpr Link) (bound : ℕ) (s : Spans (choose_children Γ c a b) bound) where
+  module _ (at : ℕ) (c a b : RawExpr Link) (ones : Ones (choose_children Γ c a b)) (s : (end : ℕ) → Ascends (choose at c a b) end → Spans (choose_children Γ c a b) end) where
     abbrev I : ℕ
     I = expr_offset link_offset c
 
@@ -212,9 +212,9 @@ module _ (γ : Known) (has : Target → Ty → Type 0) where
     choose_tests : (w x y : TypedExpr) → Becomes Γ c w.ty w.tree → Becomes Γ a x.ty x.tree → Becomes Γ b y.ty y.tree → (l m n : Option TypeFault)
         → misfit γ.names I (exactly (scalar is.Bool)) w.ty ≡ l → misfit γ.names J a_scalar x.ty ≡ m → misfit γ.names K (exactly x.ty) y.ty ≡ n
         → Right Γ (choose at c a b) (tested l (tested m (tested n (Ok (record { ty = x.ty; tree = tree.choose w.tree x.tree y.tree })))))
-    choose_tests w x y g h k (Some f) m n e i j = three_fourth (expr_child Γ c) (expr_child Γ a) (expr_child Γ b) (wants Γ I (exactly (scalar is.Bool))) (wants Γ J a_scalar) (like_the_first Γ K) bound s w.ty x.ty y.ty f (w.tree, g) (x.tree, h) (y.tree, k) e
-    choose_tests w x y g h k None (Some f) n e i j = three_fifth (expr_child Γ c) (expr_child Γ a) (expr_child Γ b) (wants Γ I (exactly (scalar is.Bool))) (wants Γ J a_scalar) (like_the_first Γ K) bound s w.ty x.ty y.ty f (w.tree, g) (x.tree, h) (y.tree, k) e i
-    choose_tests w x y g h k None None (Some f) e i j = three_sixth (expr_child Γ c) (expr_child Γ a) (expr_child Γ b) (wants Γ I (exactly (scalar is.Bool))) (wants Γ J a_scalar) (like_the_first Γ K) bound s w.ty x.ty y.ty f (w.tree, g) (x.tree, h) (y.tree, k) e i j
+    choose_tests w x y g h k (Some f) m n e i j = λ bound o. three_fourth (expr_child Γ c) (expr_child Γ a) (expr_child Γ b) (wants Γ I (exactly (scalar is.Bool))) (wants Γ J a_scalar) (like_the_first Γ K) bound (s bound o) ones w.ty x.ty y.ty f (w.tree, g) (x.tree, h) (y.tree, k) e
+    choose_tests w x y g h k None (Some f) n e i j = λ bound o. three_fifth (expr_child Γ c) (expr_child Γ a) (expr_child Γ b) (wants Γ I (exactly (scalar is.Bool))) (wants Γ J a_scalar) (like_the_first Γ K) bound (s bound o) ones w.ty x.ty y.ty f (w.tree, g) (x.tree, h) (y.tree, k) e i
+    choose_tests w x y g h k None None (Some f) e i j = λ bound o. three_sixth (expr_child Γ c) (expr_child Γ a) (expr_child Γ b) (wants Γ I (exactly (scalar is.Bool))) (wants Γ J a_scalar) (like_the_first Γ K) bound (s bound o) ones w.ty x.ty y.ty f (w.tree, g) (x.tree, h) (y.tree, k) e i j
     choose_tests w x y g h k None None None e i j =
         let p = same_true (scalar is.Bool) w.ty (unless_none (same (scalar is.Bool) w.ty) _ e) in
         let v = any_scalar x.ty (unless_none (fulfils a_scalar x.ty) _ i) in let q = same_true x.ty y.ty (unless_none (same x.ty y.ty) _ j) in (
@@ -231,30 +231,30 @@ module _ (γ : Known) (has : Target → Ty → Type 0) where
 
     choose_right : (r q z : Result TypedExpr TypeFault) → Right Γ c r → Right Γ a q → Right Γ b z
         → Right Γ (choose at c a b) (and_then r (λ w. and_then q (λ x. and_then z (λ y. choose_row γ.names I w J x K y))))
-    choose_right (Err f) q z g h k = three_first (expr_child Γ c) (expr_child Γ a) (expr_child Γ b) (wants Γ I (exactly (scalar is.Bool))) (wants Γ J a_scalar) (like_the_first Γ K) bound s f g
-    choose_right (Ok w) (Err f) z g h k = three_second (expr_child Γ c) (expr_child Γ a) (expr_child Γ b) (wants Γ I (exactly (scalar is.Bool))) (wants Γ J a_scalar) (like_the_first Γ K) bound s w.ty f (w.tree, g) h
-    choose_right (Ok w) (Ok x) (Err f) g h k = three_third (expr_child Γ c) (expr_child Γ a) (expr_child Γ b) (wants Γ I (exactly (scalar is.Bool))) (wants Γ J a_scalar) (like_the_first Γ K) bound s w.ty x.ty f (w.tree, g) (x.tree, h) k
+    choose_right (Err f) q z g h k = λ bound o. three_first (expr_child Γ c) (expr_child Γ a) (expr_child Γ b) (wants Γ I (exactly (scalar is.Bool))) (wants Γ J a_scalar) (like_the_first Γ K) bound (s bound o) ones f (g J o.1)
+    choose_right (Ok w) (Err f) z g h k = λ bound o. three_second (expr_child Γ c) (expr_child Γ a) (expr_child Γ b) (wants Γ I (exactly (scalar is.Bool))) (wants Γ J a_scalar) (like_the_first Γ K) bound (s bound o) ones w.ty f (w.tree, g) (h K o.2)
+    choose_right (Ok w) (Ok x) (Err f) g h k = λ bound o. three_third (expr_child Γ c) (expr_child Γ a) (expr_child Γ b) (wants Γ I (exactly (scalar is.Bool))) (wants Γ J a_scalar) (like_the_first Γ K) bound (s bound o) ones w.ty x.ty f (w.tree, g) (x.tree, h) (k bound o.3)
     choose_right (Ok w) (Ok x) (Ok y) g h k = choose_tests w x y g h k (misfit γ.names I (exactly (scalar is.Bool)) w.ty) (misfit γ.names J a_scalar x.ty) (misfit γ.names K (exactly x.ty) y.ty) refl refl refl
 
-  module _ (p : RawPlace Link) (at : ℕ) (name : Id) (bound : ℕ) (s : Spans (get_children Γ p name) bound) where
+  module _ (p : RawPlace Link) (at : ℕ) (name : Id) (ones : Ones (get_children Γ p name)) (s : (end : ℕ) → AscendsPlace (get at p name) end → Spans (get_children Γ p name) end) where
     abbrev G : ℕ
     G = place_offset link_offset p
 
     get_found : (r : ℕ) (q : Path) → BecomesPlace Γ p (record_type r) q → (o : Option (ℕ × Ty)) → field_of γ.records r name.name ≡ o
         → RightPlace Γ (get at p name) (and_then (field_found name.at o) (λ f. Ok (record { ty = f.1; path = with_step q (tree.field f.0) })))
-    get_found r q h None e = one_type (place_child Γ p) (wants_field Γ G name.at name.name) bound s (record_type r) _ (q, h) (ap (λ o. has_field o name.at) e)
+    get_found r q h None e = λ bound o. one_type (place_child Γ p) (wants_field Γ G name.at name.name) bound (s bound o) ones (record_type r) _ (q, h) (ap (λ o. has_field o name.at) e)
     get_found r q h (Some f) e = (r, f.0, q, h, e, refl)
 
     get_typed : (t : Ty) (q : Path) → BecomesPlace Γ p t q → RightPlace Γ (get at p name) (get_row γ.names γ.records G (record { ty = t; path = q }) name)
     get_typed (record_type r) q h = get_found r q h (field_of γ.records r name.name) refl
-    get_typed (scalar k) q h = one_type (place_child Γ p) (wants_field Γ G name.at name.name) bound s (scalar k) _ (q, h) refl
-    get_typed (array n t) q h = one_type (place_child Γ p) (wants_field Γ G name.at name.name) bound s (array n t) _ (q, h) refl
+    get_typed (scalar k) q h = λ bound o. one_type (place_child Γ p) (wants_field Γ G name.at name.name) bound (s bound o) ones (scalar k) _ (q, h) refl
+    get_typed (array n t) q h = λ bound o. one_type (place_child Γ p) (wants_field Γ G name.at name.name) bound (s bound o) ones (array n t) _ (q, h) refl
 
     get_right : (r : Result TypedPlace TypeFault) → RightPlace Γ p r → RightPlace Γ (get at p name) (and_then r (λ x. get_row γ.names γ.records G x name))
-    get_right (Err f) h = one_child (place_child Γ p) (wants_field Γ G name.at name.name) bound s f h
+    get_right (Err f) h = λ bound o. one_child (place_child Γ p) (wants_field Γ G name.at name.name) bound (s bound o) ones f (h name.at o.1)
     get_right (Ok x) h = get_typed x.ty x.path h
 
-  module _ (p : RawPlace Link) (at : ℕ) (e : RawExpr Link) (bound : ℕ) (s : Spans (index_children Γ p e) bound) where
+  module _ (p : RawPlace Link) (at : ℕ) (e : RawExpr Link) (ones : Ones (index_children Γ p e)) (s : (end : ℕ) → AscendsPlace (index at p e) end → Spans (index_children Γ p e) end) where
     abbrev L : ℕ
     L = place_offset link_offset p
 
@@ -263,18 +263,18 @@ module _ (γ : Known) (has : Target → Ty → Type 0) where
 
     index_tests : (n : ℕ) (t : Ty) (q : Path) → BecomesPlace Γ p (array n t) q → (i : TypedExpr) → Becomes Γ e i.ty i.tree → (m : Option TypeFault) → misfit γ.names M (exactly (scalar (is.Ix n))) i.ty ≡ m
         → RightPlace Γ (index at p e) (tested m (Ok (record { ty = t; path = with_step q (tree.at i.tree) })))
-    index_tests n t q h i k (Some f) j = two_fourth (place_child Γ p) (expr_child Γ e) (wants Γ L an_array) (wants_index Γ M) bound s (array n t) i.ty f (q, h) (i.tree, k) refl j
+    index_tests n t q h i k (Some f) j = λ bound o. two_fourth (place_child Γ p) (expr_child Γ e) (wants Γ L an_array) (wants_index Γ M) bound (s bound o) ones (array n t) i.ty f (q, h) (i.tree, k) refl j
     index_tests n t q h i k None j = let w = same_true (scalar (is.Ix n)) i.ty (unless_none (same (scalar (is.Ix n)) i.ty) _ j) in
         (n, q, i.tree, h, subst (λ v. Becomes Γ e v i.tree) (sym w) k, refl)
 
     index_typed : (t : Ty) (q : Path) → BecomesPlace Γ p t q → (i : TypedExpr) → Becomes Γ e i.ty i.tree → RightPlace Γ (index at p e) (index_row γ.names L (record { ty = t; path = q }) M i)
     index_typed (array n t) q h i k = index_tests n t q h i k (misfit γ.names M (exactly (scalar (is.Ix n))) i.ty) refl
-    index_typed (scalar v) q h i k = two_third (place_child Γ p) (expr_child Γ e) (wants Γ L an_array) (wants_index Γ M) bound s (scalar v) i.ty _ (q, h) (i.tree, k) refl
-    index_typed (record_type r) q h i k = two_third (place_child Γ p) (expr_child Γ e) (wants Γ L an_array) (wants_index Γ M) bound s (record_type r) i.ty _ (q, h) (i.tree, k) refl
+    index_typed (scalar v) q h i k = λ bound o. two_third (place_child Γ p) (expr_child Γ e) (wants Γ L an_array) (wants_index Γ M) bound (s bound o) ones (scalar v) i.ty _ (q, h) (i.tree, k) refl
+    index_typed (record_type r) q h i k = λ bound o. two_third (place_child Γ p) (expr_child Γ e) (wants Γ L an_array) (wants_index Γ M) bound (s bound o) ones (record_type r) i.ty _ (q, h) (i.tree, k) refl
 
     index_right : (r : Result TypedPlace TypeFault) (z : Result TypedExpr TypeFault) → RightPlace Γ p r → Right Γ e z → RightPlace Γ (index at p e) (and_then r (λ x. and_then z (λ i. index_row γ.names L x M i)))
-    index_right (Err f) z h k = two_first (place_child Γ p) (expr_child Γ e) (wants Γ L an_array) (wants_index Γ M) bound s f h
-    index_right (Ok x) (Err f) h k = two_second (place_child Γ p) (expr_child Γ e) (wants Γ L an_array) (wants_index Γ M) bound s x.ty f (x.path, h) k
+    index_right (Err f) z h k = λ bound o. two_first (place_child Γ p) (expr_child Γ e) (wants Γ L an_array) (wants_index Γ M) bound (s bound o) ones f (h M o.1)
+    index_right (Ok x) (Err f) h k = λ bound o. two_second (place_child Γ p) (expr_child Γ e) (wants Γ L an_array) (wants_index Γ M) bound (s bound o) ones x.ty f (x.path, h) (k bound o.2)
     index_right (Ok x) (Ok i) h k = index_typed x.ty x.path h i k
 
   read_right : (p : RawPlace Link) (r : Result TypedPlace TypeFault) → RightPlace Γ p r → Right Γ (read p) (and_then r (λ x. Ok (Rattle.arch_types.specs.Walk.read_row x)))
@@ -283,26 +283,29 @@ module _ (γ : Known) (has : Target → Ty → Type 0) where
 
   lit_right : (at : ℕ) (k : Scalar) (n : _) (b : Bool) → fits_scalar k n ≡ b → Right Γ (lit at k n) (tested (unless b (fault.Range at)) (Ok (record { ty = scalar k; tree = tree.lit k n })))
   lit_right at k n true e = (e, refl, refl)
-  lit_right at k n false e = record { is_one = (e, refl); least = λ g h. inl h.1 }
+  lit_right at k n false e = λ bound o. record { is_one = (e, refl); least = λ g h. inl h.1 }
 
   module _ (one : (x : Target) (t u : Ty) → has x t → has x u → t ≡ u) where
     mutual
-      pub right_place : (p : RawPlace Link) (bound : ℕ) → AscendsPlace p bound → UsesPlace (λ x. has x (known_type γ x)) p → RightPlace Γ p (typed_place γ p)
-      right_place (root u) bound o h = (h, refl)
-      right_place (get at p name) bound o h = get_right p at name bound (get_spans Γ p name bound (sound_place Γ one p name.at o.1) o.2) (typed_place γ p) (right_place p name.at o.1 h)
-      right_place (index at p e) bound o h =
-          index_right p at e bound (index_spans Γ p e bound (sound_place Γ one p (expr_offset link_offset e) o.1) (sound Γ one e bound o.2))
-          (typed_place γ p) (typed γ e) (right_place p (expr_offset link_offset e) o.1 h.0) (right e bound o.2 h.1)
+      pub right_place : (p : RawPlace Link) → UsesPlace (λ x. has x (known_type γ x)) p → RightPlace Γ p (typed_place γ p)
+      right_place (root u) h = (h, refl)
+      right_place (get at p name) h =
+          get_right p at name (one_place Γ one p, tt {0}) (λ bound o. get_spans Γ p name bound (sound_place Γ p name.at o.1) o.2) (typed_place γ p) (right_place p h)
+      right_place (index at p e) h =
+          index_right p at e (one_place Γ one p, (one_expr Γ one e, tt {0})) (λ bound o. index_spans Γ p e bound (sound_place Γ p (expr_offset link_offset e) o.1) (sound Γ e bound o.2))
+          (typed_place γ p) (typed γ e) (right_place p h.0) (right e h.1)
 
-      pub right : (e : RawExpr Link) (bound : ℕ) → Ascends e bound → Uses (λ x. has x (known_type γ x)) e → Right Γ e (typed γ e)
-      right (truth at b) bound o h = (refl, refl)
-      right (read p) bound o h = read_right p (typed_place γ p) (right_place p bound o h)
-      right (lit at k n) bound o h = lit_right at k n (fits_scalar k n) refl
-      right (un at op a) bound o h = un_right op at a bound (un_spans Γ op a bound (sound Γ one a bound o.1)) (typed γ a) (right a bound o.1 h)
-      right (bin at op a b) bound o h =
-          bin_right op at a b bound (bin_spans Γ op a b bound (sound Γ one a (expr_offset link_offset b) o.1) (sound Γ one b bound o.2))
-          (typed γ a) (typed γ b) (right a (expr_offset link_offset b) o.1 h.0) (right b bound o.2 h.1)
-      right (choose at c a b) bound o h =
-          choose_right at c a b bound (choose_spans Γ c a b bound (sound Γ one c (expr_offset link_offset a) o.1) (sound Γ one a (expr_offset link_offset b) o.2) (sound Γ one b bound o.3))
-          (typed γ c) (typed γ a) (typed γ b) (right c (expr_offset link_offset a) o.1 h.0) (right a (expr_offset link_offset b) o.2 h.1) (right b bound o.3 h.2)
-      right (cast at u a) bound o h = cast_right at u a bound (cast_spans Γ u a bound o.1 (sound Γ one a bound o.2)) (typed γ a) (right a bound o.2 h)
+      pub right : (e : RawExpr Link) → Uses (λ x. has x (known_type γ x)) e → Right Γ e (typed γ e)
+      right (truth at b) h = (refl, refl)
+      right (read p) h = read_right p (typed_place γ p) (right_place p h)
+      right (lit at k n) h = lit_right at k n (fits_scalar k n) refl
+      right (un at op a) h = un_right op at a (one_expr Γ one a, tt {0}) (λ bound o. un_spans Γ op a bound (sound Γ a bound o.1)) (typed γ a) (right a h)
+      right (bin at op a b) h =
+          bin_right op at a b (one_expr Γ one a, (one_expr Γ one b, tt {0})) (λ bound o. bin_spans Γ op a b bound (sound Γ a (expr_offset link_offset b) o.1) (sound Γ b bound o.2))
+          (typed γ a) (typed γ b) (right a h.0) (right b h.1)
+      right (choose at c a b) h =
+          choose_right at c a b (one_expr Γ one c, (one_expr Γ one a, (one_expr Γ one b, tt {0})))
+          (λ bound o. choose_spans Γ c a b bound (sound Γ c (expr_offset link_offset a) o.1) (sound Γ a (expr_offset link_offset b) o.2) (sound Γ b bound o.3))
+          (typed γ c) (typed γ a) (typed γ b) (right c h.0) (right a h.1) (right b h.2)
+      right (cast at u a) h =
+          cast_right at u a (type_one Γ u, (one_expr Γ one a, tt {0})) (λ bound o. cast_spans Γ u a bound o.1 (sound Γ a bound o.2)) (typed γ a) (right a h)

@@ -31,11 +31,11 @@ module _ (γ : Known) where
     expr_known (choose at c a b) h = (expr_known c h.0, expr_known a h.1, expr_known b h.2)
     expr_known (cast at t a) h = expr_known a h
 
-  pub all_right : (e : RawExpr Link) (end : ℕ) → Ascends e end → Uses (IsKnown γ) e → Right (env_of γ) e (typed γ e)
-  all_right e end o h = right γ (has_known γ) one_known e end o (expr_known e h)
+  pub all_right : (e : RawExpr Link) → Uses (IsKnown γ) e → Right (env_of γ) e (typed γ e)
+  all_right e h = right γ (has_known γ) one_known e (expr_known e h)
 
-  pub law_ok : (e : RawExpr Link) (x : TypedExpr) → typed γ e ≡ Ok x → (end : ℕ) → Ascends e end → Uses (IsKnown γ) e → Becomes (env_of γ) e x.ty x.tree
-  law_ok e x i end o h = subst (Right (env_of γ) e) i (all_right e end o h)
+  pub law_ok : (e : RawExpr Link) (x : TypedExpr) → typed γ e ≡ Ok x → Uses (IsKnown γ) e → Becomes (env_of γ) e x.ty x.tree
+  law_ok e x i h = subst (Right (env_of γ) e) i (all_right e h)
 
   pub law_err : (e : RawExpr Link) (f : TypeFault) → (f ≡ fault.NoMemory) ⊎ (typed γ e ≡ Err f) → (end : ℕ) → Ascends e end → Uses (IsKnown γ) e → (f ≡ fault.NoMemory) ⊎ IsFirst (ExprFaults (env_of γ) e) f
-  law_err e f i end o h = elim i [ inl j ↦ inl j | inr j ↦ inr (subst (Right (env_of γ) e) j (all_right e end o h)) ]
+  law_err e f i end o h = elim i [ inl j ↦ inl j | inr j ↦ inr (subst (Right (env_of γ) e) j (all_right e h) end o) ]

@@ -14,11 +14,18 @@ pub record Within (lo : ℕ) (hi : ℕ) (f : TypeFault) : Type 0 where
 pub wider : (lo hi lo' hi' : ℕ) (f : TypeFault) → lo' ≤ lo → hi ≤ hi' → Within lo hi f → Within lo' hi' f
 wider lo hi lo' hi' f a b w = let x = w.from in let y = w.below in record { from = omega arith; below = omega arith }
 
--- a child has one type at most, and none where a fault is in it; its faults stand within it
-pub record IsSound (c : Child) (bound : ℕ) : Type 0 where
-  pub begins : c.at < bound
+-- a child has one type at most, and none where a fault is in it
+pub record IsOne (c : Child) : Type 0 where
   pub one : (t u : Ty) → c.has t → c.has u → t ≡ u
   pub clean : (t : Ty) (f : TypeFault) → c.has t → c.faults f → ⊥
+
+abbrev pub Ones : Row → Type 0
+Ones end = Unit {0}
+Ones (child c test row) = IsOne c × Ones row
+
+-- a child's faults stand within it
+pub record IsSound (c : Child) (bound : ℕ) : Type 0 where
+  pub begins : c.at < bound
   pub within : (f : TypeFault) → c.faults f → Within c.at bound f
 
 abbrev pub start : Row → ℕ → ℕ
@@ -56,20 +63,20 @@ node_within row bound f s h = elim h [
   | inr k ↦ misses_inside none_before row k.0 bound f s k.2
 ]
 
-pub types_one : (row : Row) (ts us : List Ty) (bound : ℕ) → Spans row bound → HaveTypes row ts → HaveTypes row us → ts ≡ us
-types_one end [] [] bound s h k = refl
-types_one end [] (u ∷ us) bound s h k = absurd k
-types_one end (t ∷ ts) us bound s h k = absurd h
-types_one (child c test row) [] us bound s h k = absurd h
-types_one (child c test row) (t ∷ ts) [] bound s h k = absurd k
-types_one (child c test row) (t ∷ ts) (u ∷ us) bound s h k = λ i. s.0.one t u h.0 k.0 i ∷ types_one row ts us bound s.2 h.1 k.1 i
+pub types_one : (row : Row) (ts us : List Ty) → Ones row → HaveTypes row ts → HaveTypes row us → ts ≡ us
+types_one end [] [] s h k = refl
+types_one end [] (u ∷ us) s h k = absurd k
+types_one end (t ∷ ts) us s h k = absurd h
+types_one (child c test row) [] us s h k = absurd h
+types_one (child c test row) (t ∷ ts) [] s h k = absurd k
+types_one (child c test row) (t ∷ ts) (u ∷ us) s h k = λ i. s.0.one t u h.0 k.0 i ∷ types_one row ts us s.1 h.1 k.1 i
 
-pub types_clean : (row : Row) (ts : List Ty) (bound : ℕ) → Spans row bound → HaveTypes row ts → IsClean (InSome row)
-types_clean end ts bound s h f k = k
-types_clean (child c test row) [] bound s h f k = absurd h
-types_clean (child c test row) (t ∷ ts) bound s h f k = elim k [
+pub types_clean : (row : Row) (ts : List Ty) → Ones row → HaveTypes row ts → IsClean (InSome row)
+types_clean end ts s h f k = k
+types_clean (child c test row) [] s h f k = absurd h
+types_clean (child c test row) (t ∷ ts) s h f k = elim k [
   | inl x ↦ s.0.clean t f h.0 x
-  | inr x ↦ types_clean row ts bound s.2 h.1 f x
+  | inr x ↦ types_clean row ts s.1 h.1 f x
 ]
 
 -- ---- the first fault in the children
@@ -89,10 +96,10 @@ next_child c test row f n p = record {
   least = λ g h. elim h [ inl x ↦ absurd (n g x) | inr x ↦ p.least g x ];
 }
 
-pub in_children : (row : Row) (bound : ℕ) (f : TypeFault) → Spans row bound → IsFirst (InSome row) f → IsFirst (Node row) f
-in_children row bound f s p = record {
+pub in_children : (row : Row) (f : TypeFault) → Ones row → IsFirst (InSome row) f → IsFirst (Node row) f
+in_children row f s p = record {
   is_one = inl p.is_one;
-  least = λ g h. elim h [ inl x ↦ p.least g x | inr x ↦ absurd (types_clean row x.0 bound s x.1 f p.is_one) ];
+  least = λ g h. elim h [ inl x ↦ p.least g x | inr x ↦ absurd (types_clean row x.0 s x.1 f p.is_one) ];
 }
 
 -- ---- the first fault of the types
@@ -115,19 +122,19 @@ next_miss before c test row t ts f e p = record {
 pub no_miss : (before : Ty) (c : Child) (test : Test) (row : Row) (t : Ty) (ts : List Ty) → test before t ≡ None → IsClean (Misses t row ts) → IsClean (Misses before (child c test row) (t ∷ ts))
 no_miss before c test row t ts e n f h = elim h [ inl x ↦ none-some _ (sym e ∙ x) | inr x ↦ n f x ]
 
-pub in_types : (row : Row) (ts : List Ty) (bound : ℕ) (f : TypeFault) → Spans row bound → HaveTypes row ts → IsFirst (Misses none_before row ts) f → IsFirst (Node row) f
-in_types row ts bound f s h p = record {
+pub in_types : (row : Row) (ts : List Ty) (f : TypeFault) → Ones row → HaveTypes row ts → IsFirst (Misses none_before row ts) f → IsFirst (Node row) f
+in_types row ts f s h p = record {
   is_one = inr (ts, h, p.is_one);
   least = λ g k. elim k [
-    | inl x ↦ absurd (types_clean row ts bound s h g x)
-    | inr x ↦ p.least g (subst (λ us. Misses none_before row us g) (types_one row x.0 ts bound s x.1 h) x.2)
+    | inl x ↦ absurd (types_clean row ts s h g x)
+    | inr x ↦ p.least g (subst (λ us. Misses none_before row us g) (types_one row x.0 ts s x.1 h) x.2)
   ];
 }
 
-pub node_clean : (row : Row) (ts : List Ty) (bound : ℕ) → Spans row bound → HaveTypes row ts → IsClean (Misses none_before row ts) → IsClean (Node row)
-node_clean row ts bound s h n f k = elim k [
-  | inl x ↦ types_clean row ts bound s h f x
-  | inr x ↦ n f (subst (λ us. Misses none_before row us f) (types_one row x.0 ts bound s x.1 h) x.2)
+pub node_clean : (row : Row) (ts : List Ty) → Ones row → HaveTypes row ts → IsClean (Misses none_before row ts) → IsClean (Node row)
+node_clean row ts s h n f k = elim k [
+  | inl x ↦ types_clean row ts s h f x
+  | inr x ↦ n f (subst (λ us. Misses none_before row us f) (types_one row x.0 ts s x.1 h) x.2)
 ]
 
 -- ---- what is wrong with a type stands where its node does

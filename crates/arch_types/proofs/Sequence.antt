@@ -41,24 +41,30 @@ first_right P Q f n p = record {
 pub clean_both : (P Q : TypeFault → Type 0) → IsClean P → IsClean Q → IsClean (λ g. P g ⊎ Q g)
 clean_both P Q p q f h = elim h [ inl x ↦ p f x | inr x ↦ q f x ]
 
-pub told_right : (P Q : TypeFault → Type 0) (k : Option High) → IsClean P → Told k Q → Told k (λ g. P g ⊎ Q g)
-told_right P Q None n q = clean_both P Q n q
-told_right P Q (Some d) n q = first_right P Q (deep d) n q
+module _ (O : Type 0) (P Q : TypeFault → Type 0) where
+  pub told_right : (k : Option High) → IsClean P → Told O k Q → Told O k (λ g. P g ⊎ Q g)
+  told_right None n q = clean_both P Q n q
+  told_right (Some d) n q = λ o. first_right P Q (deep d) n (q o)
 
-pub told_both : (P Q : TypeFault → Type 0) (h k : Option High) (mid : ℕ) → Told h P → Told k Q → Below P mid → From mid Q → Told (first_high h k) (λ g. P g ⊎ Q g)
-told_both P Q None k mid p q b r = told_right P Q k p q
-told_both P Q (Some d) k mid p q b r = first_left P Q (deep d) mid p (b (deep d) p.is_one) r
+  pub told_both : (h k : Option High) (mid : ℕ) → Told O h P → Told O k Q → (O → Below P mid) → (O → From mid Q) → Told O (first_high h k) (λ g. P g ⊎ Q g)
+  told_both None k mid p q b r = told_right k p q
+  told_both (Some d) k mid p q b r = λ o. first_left P Q (deep d) mid (p o) (b o (deep d) (p o).is_one) (r o)
 
-pub told_first : (P Q : TypeFault → Type 0) (h : Option High) (f : TypeFault) (mid : ℕ) → Told h P → IsFirst Q f → 0 < offset f → Below P mid → From mid Q → IsFirst (λ g. P g ⊎ Q g) (earlier h f)
-told_first P Q None f mid p q l b r = subst (IsFirst (λ g. P g ⊎ Q g)) (sym (earlier_none f)) (first_right P Q f p q)
-told_first P Q (Some d) f mid p q l b r = subst (IsFirst (λ g. P g ⊎ Q g)) (sym (earlier_some d f l)) (first_left P Q (deep d) mid p (b (deep d) p.is_one) r)
+  pub told_first : (h : Option High) (f : TypeFault) (mid : ℕ) → Told O h P → O → IsFirst Q f → 0 < offset f → Below P mid → From mid Q → IsFirst (λ g. P g ⊎ Q g) (earlier h f)
+  told_first None f mid p o q l b r = subst (IsFirst (λ g. P g ⊎ Q g)) (sym (earlier_none f)) (first_right P Q f p q)
+  told_first (Some d) f mid p o q l b r = subst (IsFirst (λ g. P g ⊎ Q g)) (sym (earlier_some d f l)) (first_left P Q (deep d) mid (p o) (b (deep d) (p o).is_one) r)
 
 pub first_of_same : (P Q : TypeFault → Type 0) (f : TypeFault) → ((g : TypeFault) → P g → Q g) → ((g : TypeFault) → Q g → P g) → IsFirst P f → IsFirst Q f
 first_of_same P Q f to back p = record { is_one = to f p.is_one; least = λ g h. p.least g (back g h) }
 
-pub told_same : (P Q : TypeFault → Type 0) (h : Option High) → ((g : TypeFault) → P g → Q g) → ((g : TypeFault) → Q g → P g) → Told h P → Told h Q
-told_same P Q None to back p = λ f x. p f (back f x)
-told_same P Q (Some d) to back p = first_of_same P Q (deep d) to back p
+pub told_same : (O : Type 0) (P Q : TypeFault → Type 0) (h : Option High) → ((g : TypeFault) → P g → Q g) → ((g : TypeFault) → Q g → P g) → Told O h P → Told O h Q
+told_same O P Q None to back p = λ f x. p f (back f x)
+told_same O P Q (Some d) to back p = λ o. first_of_same P Q (deep d) to back (p o)
+
+-- the order of a part is that of the whole
+pub told_within : (O N : Type 0) (P : TypeFault → Type 0) (h : Option High) → (N → O) → Told O h P → Told N h P
+told_within O N P None part p = p
+told_within O N P (Some d) part p = λ o. p (part o)
 
 -- ---- one expression or place
 
@@ -68,13 +74,13 @@ told_less h = omega arith
 told_low : (h : ℕ) → told h ≤ 24 → h ≤ 24
 told_low h l = omega arith
 
-told_case : (c : Child) (h : ℕ) (breaks : Faults) → IsClean c.faults → ((g : TypeFault) → breaks g → offset g ≡ c.at → ⊥) → (b : Bool) → nat_lt 24 (told h) ≡ b
-    → Told (if b then Some (record { at = c.at; depth = told h }) else None) (IsDeep c h breaks)
-told_case c h breaks n m true e = let l : 24 < told h = grind arith in let k = told_less h in record {
-  is_one = (omega arith, n, m, refl);
-  least = λ g x. inl x.3;
-}
-told_case c h breaks n m false e = λ f x. let l : told h ≤ 24 = grind arith in let k = told_low h l in let i = x.0 in omega arith
+module _ (O : Type 0) (c : Child) (h : ℕ) (breaks : Faults) (n : IsClean c.faults) (m : O → (g : TypeFault) → breaks g → offset g ≡ c.at → ⊥) where
+  told_case : (b : Bool) → nat_lt 24 (told h) ≡ b → Told O (if b then Some (record { at = c.at; depth = told h }) else None) (IsDeep c h breaks)
+  told_case true e = λ o. let l : 24 < told h = grind arith in let k = told_less h in record {
+    is_one = (omega arith, n, m o, refl);
+    least = λ g x. inl x.3;
+  }
+  told_case false e = λ f x. let l : told h ≤ 24 = grind arith in let k = told_low h l in let i = x.0 in omega arith
 
-pub told_deep : (c : Child) (h : ℕ) (breaks : Faults) → IsClean c.faults → ((g : TypeFault) → breaks g → offset g ≡ c.at → ⊥) → Told (too_high c.at (told h)) (IsDeep c h breaks)
-told_deep c h breaks n m = told_case c h breaks n m (nat_lt 24 (told h)) refl
+  pub told_deep : Told O (too_high c.at (told h)) (IsDeep c h breaks)
+  told_deep = told_case (nat_lt 24 (told h)) refl

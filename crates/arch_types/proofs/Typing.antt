@@ -23,7 +23,7 @@ use Rattle.arch_types.specs.Body.{place_child, expr_child}
 use Rattle.arch_types.specs.Order.{AscendsPlace, Ascends}
 use Rattle.arch_types.specs.Walk.{scalar_in}
 use Rattle.arch_types.proofs.Same.{same_refl}
-use Rattle.arch_types.proofs.Nodes.{Within, wider, IsSound, Spans, node_within, node_clean, none_of_one, none_of_two, none_of_three, misfit_within, fits_none, unless_at}
+use Rattle.arch_types.proofs.Nodes.{Within, wider, IsOne, Ones, IsSound, Spans, node_within, node_clean, none_of_one, none_of_two, none_of_three, misfit_within, fits_none, unless_at}
 
 pub truth_only : (s : Scalar) → same_scalar is.Bool s ≡ not (is_number s)
 truth_only is.Bool = refl
@@ -60,8 +60,6 @@ applies_wanted_one un_op.Neg s = refl
 pub sooner : (c : Child) (a b : ℕ) → IsSound c a → a ≤ b → IsSound c b
 sooner c a b s l = let x = s.begins in record {
   begins = omega arith;
-  one = s.one;
-  clean = s.clean;
   within = λ f h. wider c.at a c.at b f (omega arith) l (s.within f h);
 }
 
@@ -114,7 +112,10 @@ module _ (Γ : Env) where
   cast_children u a = child (type_child u) (wants Γ (type_offset link_offset u) a_number) (child (expr_child Γ a) (wants Γ (expr_offset link_offset a) a_number) end)
 
   pub type_sound : (u : RawType Link) (bound : ℕ) → type_offset link_offset u < bound → IsSound (type_child u) bound
-  type_sound u bound l = record { begins = l; one = λ t v h k. h ∙ sym k; clean = λ t f h x. x; within = λ f x. absurd x }
+  type_sound u bound l = record { begins = l; within = λ f x. absurd x }
+
+  pub type_one : (u : RawType Link) → IsOne (type_child u)
+  type_one u = record { one = λ t v h k. h ∙ sym k; clean = λ t f h x. x }
 
   -- ---- what is known of the children of each row
 
@@ -138,60 +139,63 @@ module _ (Γ : Env) where
 
   -- ---- a node with a type has no fault
 
-  get_clean : (p : RawPlace Link) (at : ℕ) (name : Id) (bound : ℕ) → Spans (get_children p name) bound → (t : Ty) (f : TypeFault) → HasPlace Γ (get at p name) t → Node (get_children p name) f → ⊥
-  get_clean p at name bound s t f (x, (r, k, q, h, e, d)) n =
-      node_clean (get_children p name) (record_type r ∷ []) bound s ((q, h), tt {0})
+  get_clean : (p : RawPlace Link) (at : ℕ) (name : Id) → Ones (get_children p name) → (t : Ty) (f : TypeFault) → HasPlace Γ (get at p name) t → Node (get_children p name) f → ⊥
+  get_clean p at name s t f (x, (r, k, q, h, e, d)) n =
+      node_clean (get_children p name) (record_type r ∷ []) s ((q, h), tt {0})
       (none_of_one (place_child Γ p) (wants_field Γ (place_offset link_offset p) name.at name.name) (record_type r) (ap (λ o. has_field o name.at) e)) f n
 
-  index_clean : (p : RawPlace Link) (at : ℕ) (e : RawExpr Link) (bound : ℕ) → Spans (index_children p e) bound → (t : Ty) (f : TypeFault) → HasPlace Γ (index at p e) t → Node (index_children p e) f → ⊥
-  index_clean p at e bound s t f (x, (n, q, i, h, j, d)) k =
-      node_clean (index_children p e) (array n t ∷ scalar (is.Ix n) ∷ []) bound s ((q, h), ((i, j), tt {0}))
+  index_clean : (p : RawPlace Link) (at : ℕ) (e : RawExpr Link) → Ones (index_children p e) → (t : Ty) (f : TypeFault) → HasPlace Γ (index at p e) t → Node (index_children p e) f → ⊥
+  index_clean p at e s t f (x, (n, q, i, h, j, d)) k =
+      node_clean (index_children p e) (array n t ∷ scalar (is.Ix n) ∷ []) s ((q, h), ((i, j), tt {0}))
       (none_of_two (place_child Γ p) (expr_child Γ e) (wants Γ (place_offset link_offset p) an_array) (wants_index Γ (expr_offset link_offset e)) (array n t) (scalar (is.Ix n)) refl
       (fits_none Γ.names (expr_offset link_offset e) (exactly (scalar (is.Ix n))) (scalar (is.Ix n)) (same_refl (scalar (is.Ix n))))) f k
 
-  un_clean : (at : ℕ) (o : UnOp) (a : RawExpr Link) (bound : ℕ) → Spans (un_children o a) bound → (t : Ty) (f : TypeFault) → Has Γ (un at o a) t → Node (un_children o a) f → ⊥
-  un_clean at o a bound s t f (x, (r, y, h, i, e, d)) n =
-      node_clean (un_children o a) (scalar r ∷ []) bound s ((y, h), tt {0})
+  un_clean : (at : ℕ) (o : UnOp) (a : RawExpr Link) → Ones (un_children o a) → (t : Ty) (f : TypeFault) → Has Γ (un at o a) t → Node (un_children o a) f → ⊥
+  un_clean at o a s t f (x, (r, y, h, i, e, d)) n =
+      node_clean (un_children o a) (scalar r ∷ []) s ((y, h), tt {0})
       (none_of_one (expr_child Γ a) (wants Γ (expr_offset link_offset a) (wanted_one o)) (scalar r)
       (fits_none Γ.names (expr_offset link_offset a) (wanted_one o) (scalar r) (applies_wanted_one o r ∙ i))) f n
 
-  bin_clean : (at : ℕ) (o : BinOp) (a b : RawExpr Link) (bound : ℕ) → Spans (bin_children o a b) bound → (t : Ty) (f : TypeFault) → Has Γ (bin at o a b) t → Node (bin_children o a b) f → ⊥
-  bin_clean at o a b bound s t f (x, (r, y, z, h, k, i, e, d)) n =
-      node_clean (bin_children o a b) (scalar r ∷ scalar r ∷ []) bound s ((y, h), ((z, k), tt {0}))
+  bin_clean : (at : ℕ) (o : BinOp) (a b : RawExpr Link) → Ones (bin_children o a b) → (t : Ty) (f : TypeFault) → Has Γ (bin at o a b) t → Node (bin_children o a b) f → ⊥
+  bin_clean at o a b s t f (x, (r, y, z, h, k, i, e, d)) n =
+      node_clean (bin_children o a b) (scalar r ∷ scalar r ∷ []) s ((y, h), ((z, k), tt {0}))
       (none_of_two (expr_child Γ a) (expr_child Γ b) (wants Γ (expr_offset link_offset a) (wanted o)) (like_the_first Γ (expr_offset link_offset b)) (scalar r) (scalar r)
       (fits_none Γ.names (expr_offset link_offset a) (wanted o) (scalar r) (applies_wanted o r ∙ i))
       (fits_none Γ.names (expr_offset link_offset b) (exactly (scalar r)) (scalar r) (same_refl (scalar r)))) f n
 
-  choose_clean : (at : ℕ) (c a b : RawExpr Link) (bound : ℕ) → Spans (choose_children c a b) bound → (t : Ty) (f : TypeFault) → Has Γ (choose at c a b) t → Node (choose_children c a b) f → ⊥
-  choose_clean at c a b bound s t f (x, (r, w, y, z, g, h, k, e, d)) n =
-      node_clean (choose_children c a b) (scalar is.Bool ∷ scalar r ∷ scalar r ∷ []) bound s ((w, g), ((y, h), ((z, k), tt {0})))
+  choose_clean : (at : ℕ) (c a b : RawExpr Link) → Ones (choose_children c a b) → (t : Ty) (f : TypeFault) → Has Γ (choose at c a b) t → Node (choose_children c a b) f → ⊥
+  choose_clean at c a b s t f (x, (r, w, y, z, g, h, k, e, d)) n =
+      node_clean (choose_children c a b) (scalar is.Bool ∷ scalar r ∷ scalar r ∷ []) s ((w, g), ((y, h), ((z, k), tt {0})))
       (none_of_three (expr_child Γ c) (expr_child Γ a) (expr_child Γ b) (wants Γ (expr_offset link_offset c) (exactly (scalar is.Bool))) (wants Γ (expr_offset link_offset a) a_scalar) (like_the_first Γ (expr_offset link_offset b)) (scalar is.Bool) (scalar r) (scalar r) refl refl
       (fits_none Γ.names (expr_offset link_offset b) (exactly (scalar r)) (scalar r) (same_refl (scalar r)))) f n
 
-  cast_clean : (at : ℕ) (u : RawType Link) (a : RawExpr Link) (bound : ℕ) → Spans (cast_children u a) bound → (t : Ty) (f : TypeFault) → Has Γ (cast at u a) t → Node (cast_children u a) f → ⊥
-  cast_clean at u a bound s t f (x, (r, v, y, e, i, h, j, d, c)) n =
-      node_clean (cast_children u a) (scalar r ∷ scalar v ∷ []) bound s (sym e, ((y, h), tt {0}))
+  cast_clean : (at : ℕ) (u : RawType Link) (a : RawExpr Link) → Ones (cast_children u a) → (t : Ty) (f : TypeFault) → Has Γ (cast at u a) t → Node (cast_children u a) f → ⊥
+  cast_clean at u a s t f (x, (r, v, y, e, i, h, j, d, c)) n =
+      node_clean (cast_children u a) (scalar r ∷ scalar v ∷ []) s (sym e, ((y, h), tt {0}))
       (none_of_two (type_child u) (expr_child Γ a) (wants Γ (type_offset link_offset u) a_number) (wants Γ (expr_offset link_offset a) a_number) (scalar r) (scalar v)
       (fits_none Γ.names (type_offset link_offset u) a_number (scalar r) i)
       (fits_none Γ.names (expr_offset link_offset a) a_number (scalar v) j)) f n
+
+  lit_within : (at : ℕ) (s : Scalar) (n : _) (bound : ℕ) (f : TypeFault) → at < bound → ExprFaults Γ (lit at s n) f → Within at bound f
+  lit_within at s n bound f l (j, k) = let e : offset f ≡ at = ap offset k in record { from = omega arith; below = omega arith }
 
   module _ (one : (x : Target) (t u : Ty) → Γ.has x t → Γ.has x u → t ≡ u) where
     root_one : (u : Link) (t v : Ty) → HasPlace Γ (root u) t → HasPlace Γ (root u) v → t ≡ v
     root_one u t v (q, (h, e)) (r, (k, d)) = one u.target t v h k
 
-    get_one : (p : RawPlace Link) (at : ℕ) (name : Id) (bound : ℕ) → IsSound (place_child Γ p) bound → (t v : Ty) → HasPlace Γ (get at p name) t → HasPlace Γ (get at p name) v → t ≡ v
-    get_one p at name bound s t v (x, (r, k, q, h, e, d)) (x', (r', k', q', h', e', d')) =
+    get_one : (p : RawPlace Link) (at : ℕ) (name : Id) → IsOne (place_child Γ p) → (t v : Ty) → HasPlace Γ (get at p name) t → HasPlace Γ (get at p name) v → t ≡ v
+    get_one p at name s t v (x, (r, k, q, h, e, d)) (x', (r', k', q', h', e', d')) =
         let i : r ≡ r' = ap number_of (s.one (record_type r) (record_type r') (q, h) (q', h')) in
         ap (λ f. f.1) (same_Some (k, t) (k', v) (sym e ∙ ap (λ n. field_of Γ.records n name.name) i ∙ e'))
 
-    index_one : (p : RawPlace Link) (at : ℕ) (e : RawExpr Link) (bound : ℕ) → IsSound (place_child Γ p) bound → (t v : Ty) → HasPlace Γ (index at p e) t → HasPlace Γ (index at p e) v → t ≡ v
-    index_one p at e bound s t v (x, (n, q, i, h, j, d)) (x', (n', q', i', h', j', d')) = ap element_in (s.one (array n t) (array n' v) (q, h) (q', h'))
+    index_one : (p : RawPlace Link) (at : ℕ) (e : RawExpr Link) → IsOne (place_child Γ p) → (t v : Ty) → HasPlace Γ (index at p e) t → HasPlace Γ (index at p e) v → t ≡ v
+    index_one p at e s t v (x, (n, q, i, h, j, d)) (x', (n', q', i', h', j', d')) = ap element_in (s.one (array n t) (array n' v) (q, h) (q', h'))
 
-    read_one : (p : RawPlace Link) (bound : ℕ) → IsSound (place_child Γ p) bound → (t v : Ty) → Has Γ (read p) t → Has Γ (read p) v → t ≡ v
-    read_one p bound s t v (x, (q, h, e)) (y, (r, k, d)) = s.one t v (q, h) (r, k)
+    read_one : (p : RawPlace Link) → IsOne (place_child Γ p) → (t v : Ty) → Has Γ (read p) t → Has Γ (read p) v → t ≡ v
+    read_one p s t v (x, (q, h, e)) (y, (r, k, d)) = s.one t v (q, h) (r, k)
 
-    read_clean : (p : RawPlace Link) (bound : ℕ) → IsSound (place_child Γ p) bound → (t : Ty) (f : TypeFault) → Has Γ (read p) t → PlaceFaults Γ p f → ⊥
-    read_clean p bound s t f (x, (q, h, e)) k = s.clean t f (q, h) k
+    read_clean : (p : RawPlace Link) → IsOne (place_child Γ p) → (t : Ty) (f : TypeFault) → Has Γ (read p) t → PlaceFaults Γ p f → ⊥
+    read_clean p s t f (x, (q, h, e)) k = s.clean t f (q, h) k
 
     truth_one : (at : ℕ) (b : Bool) (t v : Ty) → Has Γ (truth at b) t → Has Γ (truth at b) v → t ≡ v
     truth_one at b t v (x, (e, d)) (y, (c, z)) = e ∙ sym c
@@ -202,73 +206,73 @@ module _ (Γ : Env) where
     lit_clean : (at : ℕ) (s : Scalar) (n : _) (t : Ty) (f : TypeFault) → Has Γ (lit at s n) t → ExprFaults Γ (lit at s n) f → ⊥
     lit_clean at s n t f (x, (i, e, d)) (j, k) = false≢true (sym j ∙ i)
 
-    lit_within : (at : ℕ) (s : Scalar) (n : _) (bound : ℕ) (f : TypeFault) → at < bound → ExprFaults Γ (lit at s n) f → Within at bound f
-    lit_within at s n bound f l (j, k) = let e : offset f ≡ at = ap offset k in record { from = omega arith; below = omega arith }
+    un_one : (at : ℕ) (o : UnOp) (a : RawExpr Link) → IsOne (expr_child Γ a) → (t v : Ty) → Has Γ (un at o a) t → Has Γ (un at o a) v → t ≡ v
+    un_one at o a s t v (x, (r, y, h, i, e, d)) (x', (r', y', h', i', e', d')) = e ∙ s.one (scalar r) (scalar r') (y, h) (y', h') ∙ sym e'
 
-    un_one : (at : ℕ) (o : UnOp) (a : RawExpr Link) (bound : ℕ) → IsSound (expr_child Γ a) bound → (t v : Ty) → Has Γ (un at o a) t → Has Γ (un at o a) v → t ≡ v
-    un_one at o a bound s t v (x, (r, y, h, i, e, d)) (x', (r', y', h', i', e', d')) = e ∙ s.one (scalar r) (scalar r') (y, h) (y', h') ∙ sym e'
-
-    bin_one : (at : ℕ) (o : BinOp) (a b : RawExpr Link) (bound : ℕ) → IsSound (expr_child Γ a) bound → (t v : Ty) → Has Γ (bin at o a b) t → Has Γ (bin at o a b) v → t ≡ v
-    bin_one at o a b bound s t v (x, (r, y, z, h, k, i, e, d)) (x', (r', y', z', h', k', i', e', d')) =
+    bin_one : (at : ℕ) (o : BinOp) (a b : RawExpr Link) → IsOne (expr_child Γ a) → (t v : Ty) → Has Γ (bin at o a b) t → Has Γ (bin at o a b) v → t ≡ v
+    bin_one at o a b s t v (x, (r, y, z, h, k, i, e, d)) (x', (r', y', z', h', k', i', e', d')) =
         e ∙ ap (λ q. scalar (binary_scalar o (scalar_in q))) (s.one (scalar r) (scalar r') (y, h) (y', h')) ∙ sym e'
 
-    choose_one : (at : ℕ) (c a b : RawExpr Link) (bound : ℕ) → IsSound (expr_child Γ a) bound → (t v : Ty) → Has Γ (choose at c a b) t → Has Γ (choose at c a b) v → t ≡ v
-    choose_one at c a b bound s t v (x, (r, w, y, z, g, h, k, e, d)) (x', (r', w', y', z', g', h', k', e', d')) = e ∙ s.one (scalar r) (scalar r') (y, h) (y', h') ∙ sym e'
+    choose_one : (at : ℕ) (c a b : RawExpr Link) → IsOne (expr_child Γ a) → (t v : Ty) → Has Γ (choose at c a b) t → Has Γ (choose at c a b) v → t ≡ v
+    choose_one at c a b s t v (x, (r, w, y, z, g, h, k, e, d)) (x', (r', w', y', z', g', h', k', e', d')) = e ∙ s.one (scalar r) (scalar r') (y, h) (y', h') ∙ sym e'
 
     cast_one : (at : ℕ) (u : RawType Link) (a : RawExpr Link) (t v : Ty) → Has Γ (cast at u a) t → Has Γ (cast at u a) v → t ≡ v
     cast_one at u a t v (x, (r, w, y, e, i, h, j, d, c)) (x', (r', w', y', e', i', h', j', d', c')) = d ∙ sym e ∙ e' ∙ sym d'
 
     mutual
-      pub sound_place : (p : RawPlace Link) (bound : ℕ) → AscendsPlace p bound → IsSound (place_child Γ p) bound
-      sound_place (root u) bound o = record { begins = o; one = root_one u; clean = λ t f h x. x; within = λ f x. absurd x }
-      sound_place (get at p name) bound o =
-          let s = sound_place p name.at o.1 in let l = s.begins in let i = o.0 in let j = o.2 in
-          let spans = get_spans p name bound s o.2 in record {
-            begins = omega arith;
-            one = get_one p at name name.at s;
-            clean = get_clean p at name bound spans;
-            within = λ f h. wider (place_offset link_offset p) bound at bound f (omega arith) (omega arith) (node_within (get_children p name) bound f spans h);
-          }
-      sound_place (index at p e) bound o =
-          let s = sound_place p (expr_offset link_offset e) o.1 in let r = sound e bound o.2 in let i = o.0 in let l = s.begins in let m = r.begins in
-          let spans = index_spans p e bound s r in record {
-            begins = omega arith;
-            one = index_one p at e (expr_offset link_offset e) s;
-            clean = index_clean p at e bound spans;
-            within = λ f h. wider (place_offset link_offset p) bound at bound f (omega arith) (omega arith) (node_within (index_children p e) bound f spans h);
-          }
+      pub one_place : (p : RawPlace Link) → IsOne (place_child Γ p)
+      one_place (root u) = record { one = root_one u; clean = λ t f h x. x }
+      one_place (get at p name) = let s = one_place p in record { one = get_one p at name s; clean = get_clean p at name (s, tt {0}) }
+      one_place (index at p e) = let s = one_place p in record { one = index_one p at e s; clean = index_clean p at e (s, (one_expr e, tt {0})) }
 
-      pub sound : (e : RawExpr Link) (bound : ℕ) → Ascends e bound → IsSound (expr_child Γ e) bound
-      sound (truth at b) bound o = record { begins = o; one = truth_one at b; clean = λ t f h x. x; within = λ f x. absurd x }
-      sound (read p) bound o = let s = sound_place p bound o in record { begins = s.begins; one = read_one p bound s; clean = read_clean p bound s; within = s.within }
-      sound (lit at k n) bound o = record { begins = o; one = lit_one at k n; clean = lit_clean at k n; within = λ f h. lit_within at k n bound f o h }
-      sound (un at op a) bound o =
-          let s = sound a bound o.1 in let i = o.0 in let l = s.begins in let spans = un_spans op a bound s in record {
-            begins = omega arith;
-            one = un_one at op a bound s;
-            clean = un_clean at op a bound spans;
-            within = λ f h. wider (expr_offset link_offset a) bound at bound f (omega arith) (omega arith) (node_within (un_children op a) bound f spans h);
-          }
-      sound (bin at op a b) bound o =
-          let s = sound a (expr_offset link_offset b) o.1 in let r = sound b bound o.2 in let i = o.0 in let l = s.begins in let m = r.begins in
-          let spans = bin_spans op a b bound s r in record {
-            begins = omega arith;
-            one = bin_one at op a b (expr_offset link_offset b) s;
-            clean = bin_clean at op a b bound spans;
-            within = λ f h. wider (expr_offset link_offset a) bound at bound f (omega arith) (omega arith) (node_within (bin_children op a b) bound f spans h);
-          }
-      sound (choose at c a b) bound o =
-          let q = sound c (expr_offset link_offset a) o.1 in let s = sound a (expr_offset link_offset b) o.2 in let r = sound b bound o.3 in
-          let i = o.0 in let k = q.begins in let l = s.begins in let m = r.begins in let spans = choose_spans c a b bound q s r in record {
-            begins = omega arith;
-            one = choose_one at c a b (expr_offset link_offset b) s;
-            clean = choose_clean at c a b bound spans;
-            within = λ f h. wider (expr_offset link_offset c) bound at bound f (omega arith) (omega arith) (node_within (choose_children c a b) bound f spans h);
-          }
-      sound (cast at u a) bound o =
-          let s = sound a bound o.2 in let i = o.0 in let j = o.1 in let l = s.begins in let spans = cast_spans u a bound o.1 s in record {
-            begins = omega arith;
-            one = cast_one at u a;
-            clean = cast_clean at u a bound spans;
-            within = λ f h. wider (type_offset link_offset u) bound at bound f (omega arith) (omega arith) (node_within (cast_children u a) bound f spans h);
-          }
+      pub one_expr : (e : RawExpr Link) → IsOne (expr_child Γ e)
+      one_expr (truth at b) = record { one = truth_one at b; clean = λ t f h x. x }
+      one_expr (read p) = let s = one_place p in record { one = read_one p s; clean = read_clean p s }
+      one_expr (lit at k n) = record { one = lit_one at k n; clean = lit_clean at k n }
+      one_expr (un at op a) = let s = one_expr a in record { one = un_one at op a s; clean = un_clean at op a (s, tt {0}) }
+      one_expr (bin at op a b) = let s = one_expr a in record { one = bin_one at op a b s; clean = bin_clean at op a b (s, (one_expr b, tt {0})) }
+      one_expr (choose at c a b) = let s = one_expr a in record { one = choose_one at c a b s; clean = choose_clean at c a b (one_expr c, (s, (one_expr b, tt {0}))) }
+      one_expr (cast at u a) = record { one = cast_one at u a; clean = cast_clean at u a (type_one u, (one_expr a, tt {0})) }
+
+  mutual
+    pub sound_place : (p : RawPlace Link) (bound : ℕ) → AscendsPlace p bound → IsSound (place_child Γ p) bound
+    sound_place (root u) bound o = record { begins = o; within = λ f x. absurd x }
+    sound_place (get at p name) bound o =
+        let s = sound_place p name.at o.1 in let l = s.begins in let i = o.0 in let j = o.2 in
+        let spans = get_spans p name bound s o.2 in record {
+          begins = omega arith;
+          within = λ f h. wider (place_offset link_offset p) bound at bound f (omega arith) (omega arith) (node_within (get_children p name) bound f spans h);
+        }
+    sound_place (index at p e) bound o =
+        let s = sound_place p (expr_offset link_offset e) o.1 in let r = sound e bound o.2 in let i = o.0 in let l = s.begins in let m = r.begins in
+        let spans = index_spans p e bound s r in record {
+          begins = omega arith;
+          within = λ f h. wider (place_offset link_offset p) bound at bound f (omega arith) (omega arith) (node_within (index_children p e) bound f spans h);
+        }
+
+    pub sound : (e : RawExpr Link) (bound : ℕ) → Ascends e bound → IsSound (expr_child Γ e) bound
+    sound (truth at b) bound o = record { begins = o; within = λ f x. absurd x }
+    sound (read p) bound o = let s = sound_place p bound o in record { begins = s.begins; within = s.within }
+    sound (lit at k n) bound o = record { begins = o; within = λ f h. lit_within at k n bound f o h }
+    sound (un at op a) bound o =
+        let s = sound a bound o.1 in let i = o.0 in let l = s.begins in let spans = un_spans op a bound s in record {
+          begins = omega arith;
+          within = λ f h. wider (expr_offset link_offset a) bound at bound f (omega arith) (omega arith) (node_within (un_children op a) bound f spans h);
+        }
+    sound (bin at op a b) bound o =
+        let s = sound a (expr_offset link_offset b) o.1 in let r = sound b bound o.2 in let i = o.0 in let l = s.begins in let m = r.begins in
+        let spans = bin_spans op a b bound s r in record {
+          begins = omega arith;
+          within = λ f h. wider (expr_offset link_offset a) bound at bound f (omega arith) (omega arith) (node_within (bin_children op a b) bound f spans h);
+        }
+    sound (choose at c a b) bound o =
+        let q = sound c (expr_offset link_offset a) o.1 in let s = sound a (expr_offset link_offset b) o.2 in let r = sound b bound o.3 in
+        let i = o.0 in let k = q.begins in let l = s.begins in let m = r.begins in let spans = choose_spans c a b bound q s r in record {
+          begins = omega arith;
+          within = λ f h. wider (expr_offset link_offset c) bound at bound f (omega arith) (omega arith) (node_within (choose_children c a b) bound f spans h);
+        }
+    sound (cast at u a) bound o =
+        let s = sound a bound o.2 in let i = o.0 in let j = o.1 in let l = s.begins in let spans = cast_spans u a bound o.1 s in record {
+          begins = omega arith;
+          within = λ f h. wider (type_offset link_offset u) bound at bound f (omega arith) (omega arith) (node_within (cast_children u a) bound f spans h);
+        }

@@ -15,8 +15,8 @@ use Rattle.arch_types.specs.Offence.{Faults, Child, Test, Row, end, child, Node,
 use Rattle.arch_types.specs.Typing.{Env, Has, ExprFaults, wants, like_the_first, type_of}
 use Rattle.arch_types.specs.Body.{with_name, with_let, with_local, with_loop, after, after_all, base, emitter_number, message_of, place_child, expr_child, if_writable, wants_writable, wants_writable_scalar, Breaks, BreaksAll, IsDeep, Deeps, DeepsAll}
 use Rattle.arch_types.specs.Order.{AscendsPlace, Ascends, start_in, AscendsStmt, AscendsAll}
-use Rattle.arch_types.proofs.Nodes.{Within, wider, IsSound, Spans, node_within, misfit_at}
-use Rattle.arch_types.proofs.Typing.{sound, sound_place, wants_in, like_in}
+use Rattle.arch_types.proofs.Nodes.{Within, wider, IsOne, Ones, IsSound, Spans, node_within, misfit_at}
+use Rattle.arch_types.proofs.Typing.{one_place, one_expr, sound, sound_place, wants_in, like_in}
 
 -- ---- a name has one type
 
@@ -36,18 +36,18 @@ one_with Γ new w one n (target.Channel b) t u h k = one (target.Channel b) t u 
 one_with Γ new w one n (target.Emitter b) t u h k = one (target.Emitter b) t u h k
 
 mutual
-  pub one_after : (s : RawStmt Link) (Γ : Env) (bound : ℕ) → AscendsStmt s bound → One Γ → One (after Γ s)
-  one_after (bind at i e) Γ bound o one = one_with Γ _ false one (λ t u h k. (sound Γ one e bound o.1).one t u h.0 k.0)
-  one_after (local at i u) Γ bound o one = one_with Γ _ true one (λ t v h k. h ∙ sym k)
-  one_after (set at p e) Γ bound o one = one
-  one_after (copy at p q) Γ bound o one = one
-  one_after (branch at c then_at a else_at b) Γ bound o one = one_after_all b (after_all Γ a) bound o.5 (one_after_all a Γ else_at o.3 one)
-  one_after (loop at i n body) Γ bound o one = one_after_all body (with_loop Γ n) bound o.1 (one_with Γ _ false one (λ t v h k. h ∙ sym k))
-  one_after (emit at u e) Γ bound o one = one
+  pub one_after : (s : RawStmt Link) (Γ : Env) → One Γ → One (after Γ s)
+  one_after (bind at i e) Γ one = one_with Γ _ false one (λ t u h k. (one_expr Γ one e).one t u h.0 k.0)
+  one_after (local at i u) Γ one = one_with Γ _ true one (λ t v h k. h ∙ sym k)
+  one_after (set at p e) Γ one = one
+  one_after (copy at p q) Γ one = one
+  one_after (branch at c then_at a else_at b) Γ one = one_after_all b (after_all Γ a) (one_after_all a Γ one)
+  one_after (loop at i n body) Γ one = one_after_all body (with_loop Γ n) (one_with Γ _ false one (λ t v h k. h ∙ sym k))
+  one_after (emit at u e) Γ one = one
 
-  pub one_after_all : (ss : RawStmts Link) (Γ : Env) (bound : ℕ) → AscendsAll ss bound → One Γ → One (after_all Γ ss)
-  one_after_all no_stmts Γ bound o one = one
-  one_after_all (stmt s ss) Γ bound o one = one_after_all ss (after Γ s) bound o.1 (one_after s Γ (start_in ss bound) o.0 one)
+  pub one_after_all : (ss : RawStmts Link) (Γ : Env) → One Γ → One (after_all Γ ss)
+  one_after_all no_stmts Γ one = one
+  one_after_all (stmt s ss) Γ one = one_after_all ss (after Γ s) (one_after s Γ one)
 
 -- ---- where parts begin
 
@@ -119,23 +119,38 @@ module _ (Γ : Env) where
   abbrev pub emit_row : Link → RawExpr Link → Row
   emit_row u e = child (expr_child Γ e) (wants Γ (expr_offset link_offset e) (exactly (message_of Γ (emitter_number u.target)))) end
 
+  pub let_spans : (e : RawExpr Link) (bound : ℕ) → Ascends e bound → Spans (let_row e) bound
+  let_spans e bound o = let s = sound Γ e bound o in (s, wants_in Γ _ bound a_scalar s.begins, tt {0})
+
+  pub set_spans : (p : RawPlace Link) (e : RawExpr Link) (bound : ℕ) → AscendsPlace p (expr_offset link_offset e) → Ascends e bound → Spans (set_row p e) bound
+  set_spans p e bound o q = let s = sound_place Γ p (expr_offset link_offset e) o in let r = sound Γ e bound q in
+      (s, λ before t f h. at_within _ _ f s.begins (written_scalar_at p before t f h), (r, like_in Γ _ bound r.begins, tt {0}))
+
+  pub copy_spans : (p q : RawPlace Link) (bound : ℕ) → AscendsPlace p (place_offset link_offset q) → AscendsPlace q bound → Spans (copy_row p q) bound
+  copy_spans p q bound o l = let s = sound_place Γ p (place_offset link_offset q) o in let r = sound_place Γ q bound l in
+      (s, λ before t f h. at_within _ _ f s.begins (written_at p before t f h), (r, like_in Γ _ bound r.begins, tt {0}))
+
+  pub test_spans : (c : RawExpr Link) (bound : ℕ) → Ascends c bound → Spans (test_row c) bound
+  test_spans c bound o = let s = sound Γ c bound o in (s, wants_in Γ _ bound (exactly (scalar is.Bool)) s.begins, tt {0})
+
+  pub emit_spans : (u : Link) (e : RawExpr Link) (bound : ℕ) → Ascends e bound → Spans (emit_row u e) bound
+  emit_spans u e bound o = let s = sound Γ e bound o in (s, wants_in Γ _ bound (exactly (message_of Γ (emitter_number u.target))) s.begins, tt {0})
+
   module _ (one : One Γ) where
-    pub let_spans : (e : RawExpr Link) (bound : ℕ) → Ascends e bound → Spans (let_row e) bound
-    let_spans e bound o = let s = sound Γ one e bound o in (s, wants_in Γ _ bound a_scalar s.begins, tt {0})
+    pub let_ones : (e : RawExpr Link) → Ones (let_row e)
+    let_ones e = (one_expr Γ one e, tt {0})
 
-    pub set_spans : (p : RawPlace Link) (e : RawExpr Link) (bound : ℕ) → AscendsPlace p (expr_offset link_offset e) → Ascends e bound → Spans (set_row p e) bound
-    set_spans p e bound o q = let s = sound_place Γ one p (expr_offset link_offset e) o in let r = sound Γ one e bound q in
-        (s, λ before t f h. at_within _ _ f s.begins (written_scalar_at p before t f h), (r, like_in Γ _ bound r.begins, tt {0}))
+    pub set_ones : (p : RawPlace Link) (e : RawExpr Link) → Ones (set_row p e)
+    set_ones p e = (one_place Γ one p, (one_expr Γ one e, tt {0}))
 
-    pub copy_spans : (p q : RawPlace Link) (bound : ℕ) → AscendsPlace p (place_offset link_offset q) → AscendsPlace q bound → Spans (copy_row p q) bound
-    copy_spans p q bound o l = let s = sound_place Γ one p (place_offset link_offset q) o in let r = sound_place Γ one q bound l in
-        (s, λ before t f h. at_within _ _ f s.begins (written_at p before t f h), (r, like_in Γ _ bound r.begins, tt {0}))
+    pub copy_ones : (p q : RawPlace Link) → Ones (copy_row p q)
+    copy_ones p q = (one_place Γ one p, (one_place Γ one q, tt {0}))
 
-    pub test_spans : (c : RawExpr Link) (bound : ℕ) → Ascends c bound → Spans (test_row c) bound
-    test_spans c bound o = let s = sound Γ one c bound o in (s, wants_in Γ _ bound (exactly (scalar is.Bool)) s.begins, tt {0})
+    pub test_ones : (c : RawExpr Link) → Ones (test_row c)
+    test_ones c = (one_expr Γ one c, tt {0})
 
-    pub emit_spans : (u : Link) (e : RawExpr Link) (bound : ℕ) → Ascends e bound → Spans (emit_row u e) bound
-    emit_spans u e bound o = let s = sound Γ one e bound o in (s, wants_in Γ _ bound (exactly (message_of Γ (emitter_number u.target))) s.begins, tt {0})
+    pub emit_ones : (u : Link) (e : RawExpr Link) → Ones (emit_row u e)
+    emit_ones u e = (one_expr Γ one e, tt {0})
 
 -- ---- the faults of statements stand within them, behind their beginning
 
@@ -146,66 +161,66 @@ abbrev pub Inside : ℕ → ℕ → TypeFault → Type 0
 Inside at bound f = Within (at + 1) bound f
 
 mutual
-  pub breaks_inside : (s : RawStmt Link) (Γ : Env) (bound : ℕ) → AscendsStmt s bound → One Γ → (f : TypeFault) → Breaks Γ s f → Inside (stmt_offset s) bound f
-  breaks_inside (bind at i e) Γ bound o one f h = let l = o.0 in wider (expr_offset link_offset e) bound (at + 1) bound f (omega arith) (omega arith) (node_within (let_row Γ e) bound f (let_spans Γ one e bound o.1) h)
-  breaks_inside (local at i u) Γ bound o one f h = absurd h
-  breaks_inside (set at p e) Γ bound o one f h = let l = o.0 in wider (place_offset link_offset p) bound (at + 1) bound f (omega arith) (omega arith) (node_within (set_row Γ p e) bound f (set_spans Γ one p e bound o.1 o.2) h)
-  breaks_inside (copy at p q) Γ bound o one f h = let l = o.0 in wider (place_offset link_offset p) bound (at + 1) bound f (omega arith) (omega arith) (node_within (copy_row Γ p q) bound f (copy_spans Γ one p q bound o.1 o.2) h)
-  breaks_inside (branch at c then_at a else_at b) Γ bound o one f h =
+  pub breaks_inside : (s : RawStmt Link) (Γ : Env) (bound : ℕ) → AscendsStmt s bound → (f : TypeFault) → Breaks Γ s f → Inside (stmt_offset s) bound f
+  breaks_inside (bind at i e) Γ bound o f h = let l = o.0 in wider (expr_offset link_offset e) bound (at + 1) bound f (omega arith) (omega arith) (node_within (let_row Γ e) bound f (let_spans Γ e bound o.1) h)
+  breaks_inside (local at i u) Γ bound o f h = absurd h
+  breaks_inside (set at p e) Γ bound o f h = let l = o.0 in wider (place_offset link_offset p) bound (at + 1) bound f (omega arith) (omega arith) (node_within (set_row Γ p e) bound f (set_spans Γ p e bound o.1 o.2) h)
+  breaks_inside (copy at p q) Γ bound o f h = let l = o.0 in wider (place_offset link_offset p) bound (at + 1) bound f (omega arith) (omega arith) (node_within (copy_row Γ p q) bound f (copy_spans Γ p q bound o.1 o.2) h)
+  breaks_inside (branch at c then_at a else_at b) Γ bound o f h =
       let l = o.0 in let i = o.2 in let j = o.4 in let k = expr_begins c then_at o.1 in let m = list_begins a else_at o.3 in let n = list_begins b bound o.5 in elim h [
-        | inl x ↦ wider (expr_offset link_offset c) then_at (at + 1) bound f (omega arith) (omega arith) ((sound Γ one c then_at o.1).within f x)
+        | inl x ↦ wider (expr_offset link_offset c) then_at (at + 1) bound f (omega arith) (omega arith) ((sound Γ c then_at o.1).within f x)
         | inr x ↦ elim x [
-          | inl y ↦ wider (start_in a else_at + 1) else_at (at + 1) bound f (omega arith) (omega arith) (all_breaks_inside a Γ else_at o.3 one f y)
+          | inl y ↦ wider (start_in a else_at + 1) else_at (at + 1) bound f (omega arith) (omega arith) (all_breaks_inside a Γ else_at o.3 f y)
           | inr y ↦ elim y [
-            | inl z ↦ wider (start_in b bound + 1) bound (at + 1) bound f (omega arith) (omega arith) (all_breaks_inside b (after_all Γ a) bound o.5 (one_after_all a Γ else_at o.3 one) f z)
-            | inr z ↦ wider (expr_offset link_offset c) then_at (at + 1) bound f (omega arith) (omega arith) (node_within (test_row Γ c) then_at f (test_spans Γ one c then_at o.1) z.2)
+            | inl z ↦ wider (start_in b bound + 1) bound (at + 1) bound f (omega arith) (omega arith) (all_breaks_inside b (after_all Γ a) bound o.5 f z)
+            | inr z ↦ wider (expr_offset link_offset c) then_at (at + 1) bound f (omega arith) (omega arith) (node_within (test_row Γ c) then_at f (test_spans Γ c then_at o.1) z.2)
           ]
         ]
       ]
-  breaks_inside (loop at i n body) Γ bound o one f h = let l = o.0 in
-      wider (start_in body bound + 1) bound (at + 1) bound f (omega arith) (omega arith) (all_breaks_inside body (with_loop Γ n) bound o.1 (one_with Γ _ false one (λ t v x y. x ∙ sym y)) f h)
-  breaks_inside (emit at u e) Γ bound o one f h = let l = o.0 in wider (expr_offset link_offset e) bound (at + 1) bound f (omega arith) (omega arith) (node_within (emit_row Γ u e) bound f (emit_spans Γ one u e bound o.1) h)
+  breaks_inside (loop at i n body) Γ bound o f h = let l = o.0 in
+      wider (start_in body bound + 1) bound (at + 1) bound f (omega arith) (omega arith) (all_breaks_inside body (with_loop Γ n) bound o.1 f h)
+  breaks_inside (emit at u e) Γ bound o f h = let l = o.0 in wider (expr_offset link_offset e) bound (at + 1) bound f (omega arith) (omega arith) (node_within (emit_row Γ u e) bound f (emit_spans Γ u e bound o.1) h)
 
-  pub all_breaks_inside : (ss : RawStmts Link) (Γ : Env) (bound : ℕ) → AscendsAll ss bound → One Γ → (f : TypeFault) → BreaksAll Γ ss f → Inside (start_in ss bound) bound f
-  all_breaks_inside no_stmts Γ bound o one f h = absurd h
-  all_breaks_inside (stmt s ss) Γ bound o one f h = let k = stmt_begins s (start_in ss bound) o.0 in let l = list_begins ss bound o.1 in elim h [
-    | inl x ↦ wider (stmt_offset s + 1) (start_in ss bound) (stmt_offset s + 1) bound f (omega arith) l (breaks_inside s Γ (start_in ss bound) o.0 one f x)
-    | inr x ↦ wider (start_in ss bound + 1) bound (stmt_offset s + 1) bound f (omega arith) (omega arith) (all_breaks_inside ss (after Γ s) bound o.1 (one_after s Γ (start_in ss bound) o.0 one) f x)
+  pub all_breaks_inside : (ss : RawStmts Link) (Γ : Env) (bound : ℕ) → AscendsAll ss bound → (f : TypeFault) → BreaksAll Γ ss f → Inside (start_in ss bound) bound f
+  all_breaks_inside no_stmts Γ bound o f h = absurd h
+  all_breaks_inside (stmt s ss) Γ bound o f h = let k = stmt_begins s (start_in ss bound) o.0 in let l = list_begins ss bound o.1 in elim h [
+    | inl x ↦ wider (stmt_offset s + 1) (start_in ss bound) (stmt_offset s + 1) bound f (omega arith) l (breaks_inside s Γ (start_in ss bound) o.0 f x)
+    | inr x ↦ wider (start_in ss bound + 1) bound (stmt_offset s + 1) bound f (omega arith) (omega arith) (all_breaks_inside ss (after Γ s) bound o.1 f x)
   ]
 
 mutual
-  pub deeps_inside : (s : RawStmt Link) (Γ : Env) (bound : ℕ) → AscendsStmt s bound → One Γ → (f : TypeFault) → Deeps Γ s f → Inside (stmt_offset s) bound f
-  deeps_inside (bind at i e) Γ bound o one f h = let l = o.0 in let k = expr_begins e bound o.1 in wider (expr_offset link_offset e) bound (at + 1) bound f (omega arith) (omega arith) (at_within _ bound f k (ap offset h.3))
-  deeps_inside (local at i u) Γ bound o one f h = absurd h
-  deeps_inside (set at p e) Γ bound o one f h = let l = o.0 in let k = place_begins p (expr_offset link_offset e) o.1 in let m = expr_begins e bound o.2 in elim h [
+  pub deeps_inside : (s : RawStmt Link) (Γ : Env) (bound : ℕ) → AscendsStmt s bound → (f : TypeFault) → Deeps Γ s f → Inside (stmt_offset s) bound f
+  deeps_inside (bind at i e) Γ bound o f h = let l = o.0 in let k = expr_begins e bound o.1 in wider (expr_offset link_offset e) bound (at + 1) bound f (omega arith) (omega arith) (at_within _ bound f k (ap offset h.3))
+  deeps_inside (local at i u) Γ bound o f h = absurd h
+  deeps_inside (set at p e) Γ bound o f h = let l = o.0 in let k = place_begins p (expr_offset link_offset e) o.1 in let m = expr_begins e bound o.2 in elim h [
     | inl x ↦ wider (place_offset link_offset p) bound (at + 1) bound f (omega arith) (omega arith) (at_within _ bound f (omega arith) (ap offset x.3))
     | inr x ↦ wider (expr_offset link_offset e) bound (at + 1) bound f (omega arith) (omega arith) (at_within _ bound f m (ap offset x.3))
   ]
-  deeps_inside (copy at p q) Γ bound o one f h = let l = o.0 in let k = place_begins p (place_offset link_offset q) o.1 in let m = place_begins q bound o.2 in elim h [
+  deeps_inside (copy at p q) Γ bound o f h = let l = o.0 in let k = place_begins p (place_offset link_offset q) o.1 in let m = place_begins q bound o.2 in elim h [
     | inl x ↦ wider (place_offset link_offset p) bound (at + 1) bound f (omega arith) (omega arith) (at_within _ bound f (omega arith) (ap offset x.3))
     | inr x ↦ wider (place_offset link_offset q) bound (at + 1) bound f (omega arith) (omega arith) (at_within _ bound f m (ap offset x.3))
   ]
-  deeps_inside (branch at c then_at a else_at b) Γ bound o one f h =
+  deeps_inside (branch at c then_at a else_at b) Γ bound o f h =
       let l = o.0 in let i = o.2 in let j = o.4 in let k = expr_begins c then_at o.1 in let m = list_begins a else_at o.3 in let n = list_begins b bound o.5 in elim h [
         | inl x ↦ wider (expr_offset link_offset c) then_at (at + 1) bound f (omega arith) (omega arith) (at_within _ then_at f k (ap offset x.3))
         | inr x ↦ elim x [
-          | inl y ↦ wider (start_in a else_at + 1) else_at (at + 1) bound f (omega arith) (omega arith) (all_deeps_inside a Γ else_at o.3 one f y)
-          | inr y ↦ wider (start_in b bound + 1) bound (at + 1) bound f (omega arith) (omega arith) (all_deeps_inside b (after_all Γ a) bound o.5 (one_after_all a Γ else_at o.3 one) f y)
+          | inl y ↦ wider (start_in a else_at + 1) else_at (at + 1) bound f (omega arith) (omega arith) (all_deeps_inside a Γ else_at o.3 f y)
+          | inr y ↦ wider (start_in b bound + 1) bound (at + 1) bound f (omega arith) (omega arith) (all_deeps_inside b (after_all Γ a) bound o.5 f y)
         ]
       ]
-  deeps_inside (loop at i n body) Γ bound o one f h = let l = o.0 in
-      wider (start_in body bound + 1) bound (at + 1) bound f (omega arith) (omega arith) (all_deeps_inside body (with_loop Γ n) bound o.1 (one_with Γ _ false one (λ t v x y. x ∙ sym y)) f h)
-  deeps_inside (emit at u e) Γ bound o one f h = let l = o.0 in let k = expr_begins e bound o.1 in wider (expr_offset link_offset e) bound (at + 1) bound f (omega arith) (omega arith) (at_within _ bound f k (ap offset h.3))
+  deeps_inside (loop at i n body) Γ bound o f h = let l = o.0 in
+      wider (start_in body bound + 1) bound (at + 1) bound f (omega arith) (omega arith) (all_deeps_inside body (with_loop Γ n) bound o.1 f h)
+  deeps_inside (emit at u e) Γ bound o f h = let l = o.0 in let k = expr_begins e bound o.1 in wider (expr_offset link_offset e) bound (at + 1) bound f (omega arith) (omega arith) (at_within _ bound f k (ap offset h.3))
 
-  pub all_deeps_inside : (ss : RawStmts Link) (Γ : Env) (bound : ℕ) → AscendsAll ss bound → One Γ → (f : TypeFault) → DeepsAll Γ ss f → Inside (start_in ss bound) bound f
-  all_deeps_inside no_stmts Γ bound o one f h = absurd h
-  all_deeps_inside (stmt s ss) Γ bound o one f h = let k = stmt_begins s (start_in ss bound) o.0 in let l = list_begins ss bound o.1 in elim h [
-    | inl x ↦ wider (stmt_offset s + 1) (start_in ss bound) (stmt_offset s + 1) bound f (omega arith) l (deeps_inside s Γ (start_in ss bound) o.0 one f x)
-    | inr x ↦ wider (start_in ss bound + 1) bound (stmt_offset s + 1) bound f (omega arith) (omega arith) (all_deeps_inside ss (after Γ s) bound o.1 (one_after s Γ (start_in ss bound) o.0 one) f x)
+  pub all_deeps_inside : (ss : RawStmts Link) (Γ : Env) (bound : ℕ) → AscendsAll ss bound → (f : TypeFault) → DeepsAll Γ ss f → Inside (start_in ss bound) bound f
+  all_deeps_inside no_stmts Γ bound o f h = absurd h
+  all_deeps_inside (stmt s ss) Γ bound o f h = let k = stmt_begins s (start_in ss bound) o.0 in let l = list_begins ss bound o.1 in elim h [
+    | inl x ↦ wider (stmt_offset s + 1) (start_in ss bound) (stmt_offset s + 1) bound f (omega arith) l (deeps_inside s Γ (start_in ss bound) o.0 f x)
+    | inr x ↦ wider (start_in ss bound + 1) bound (stmt_offset s + 1) bound f (omega arith) (omega arith) (all_deeps_inside ss (after Γ s) bound o.1 f x)
   ]
 
-pub offends_inside : (s : RawStmt Link) (Γ : Env) (bound : ℕ) → AscendsStmt s bound → One Γ → (f : TypeFault) → Breaks Γ s f ⊎ Deeps Γ s f → Inside (stmt_offset s) bound f
-offends_inside s Γ bound o one f h = elim h [ inl x ↦ breaks_inside s Γ bound o one f x | inr x ↦ deeps_inside s Γ bound o one f x ]
+pub offends_inside : (s : RawStmt Link) (Γ : Env) (bound : ℕ) → AscendsStmt s bound → (f : TypeFault) → Breaks Γ s f ⊎ Deeps Γ s f → Inside (stmt_offset s) bound f
+offends_inside s Γ bound o f h = elim h [ inl x ↦ breaks_inside s Γ bound o f x | inr x ↦ deeps_inside s Γ bound o f x ]
 
-pub all_offends_inside : (ss : RawStmts Link) (Γ : Env) (bound : ℕ) → AscendsAll ss bound → One Γ → (f : TypeFault) → BreaksAll Γ ss f ⊎ DeepsAll Γ ss f → Inside (start_in ss bound) bound f
-all_offends_inside ss Γ bound o one f h = elim h [ inl x ↦ all_breaks_inside ss Γ bound o one f x | inr x ↦ all_deeps_inside ss Γ bound o one f x ]
+pub all_offends_inside : (ss : RawStmts Link) (Γ : Env) (bound : ℕ) → AscendsAll ss bound → (f : TypeFault) → BreaksAll Γ ss f ⊎ DeepsAll Γ ss f → Inside (start_in ss bound) bound f
+all_offends_inside ss Γ bound o f h = elim h [ inl x ↦ all_breaks_inside ss Γ bound o f x | inr x ↦ all_deeps_inside ss Γ bound o f x ]

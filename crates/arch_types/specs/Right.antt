@@ -10,6 +10,7 @@ use Rattle.arch_types.specs.declared.high.High.{High}
 use Rattle.arch_types.specs.Offence.{Faults, IsClean, IsFirst}
 use Rattle.arch_types.specs.Typing.{Env, BecomesPlace, Becomes, PlaceFaults, ExprFaults}
 use Rattle.arch_types.specs.Body.{after, after_all, BecomesStmt, BecomesAll, Breaks, BreaksAll, Deeps, DeepsAll, Offends}
+use Rattle.arch_types.specs.Order.{AscendsPlace, Ascends, AscendsStmt, AscendsAll}
 use Rattle.arch_types.specs.Numbered.{Counts, bound_by, bound_by_all}
 use Rattle.arch_types.specs.Walk.{Known, known_type, may_write_among, TypedExpr, TypedPlace, deep, with_binders, Walked, AllWalked}
 
@@ -51,19 +52,20 @@ abbrev mutual
   Uses P (choose at c a b) = Uses P c × Uses P a × Uses P b
   Uses P (cast at t a) = Uses P a
 
--- the type with the checked tree, or the first fault
+-- the type with the checked tree, or the first fault where the offsets stand in text order
 abbrev pub Right : Env → RawExpr Link → Result TypedExpr TypeFault → Type 0
 Right Γ e (Ok x) = Becomes Γ e x.ty x.tree
-Right Γ e (Err f) = IsFirst (ExprFaults Γ e) f
+Right Γ e (Err f) = (end : ℕ) → Ascends e end → IsFirst (ExprFaults Γ e) f
 
 abbrev pub RightPlace : Env → RawPlace Link → Result TypedPlace TypeFault → Type 0
 RightPlace Γ p (Ok x) = BecomesPlace Γ p x.ty x.path
-RightPlace Γ p (Err f) = IsFirst (PlaceFaults Γ p) f
+RightPlace Γ p (Err f) = (end : ℕ) → AscendsPlace p end → IsFirst (PlaceFaults Γ p) f
 
--- what is told beside the checked tree: there is no fault, or this is the first of what is too high
-abbrev pub Told : Option High → Faults → Type 0
-Told None offends = IsClean offends
-Told (Some d) offends = IsFirst offends (deep d)
+-- what is told beside the checked tree: there is no fault, or, in a text that stands in order, this is the first of what
+-- is too high
+abbrev pub Told : Type 0 → Option High → Faults → Type 0
+Told O None offends = IsClean offends
+Told O (Some d) offends = O → IsFirst offends (deep d)
 
 -- ---- statements
 
@@ -86,20 +88,26 @@ pub record Agrees (Γ : Env) (γ : Known) : Type 0 where
 abbrev pub counts_of : ℕ → Known → Counts
 counts_of n γ = record { records = n; states = length γ.states; emitters = length γ.emitters; binders = length γ.binders }
 
+abbrev pub IsOrdered : RawStmt Link → Type 0
+IsOrdered s = (end : ℕ) × AscendsStmt s end
+
+abbrev pub AreOrdered : RawStmts Link → Type 0
+AreOrdered ss = (end : ℕ) × AscendsAll ss end
+
 -- statements became a part of the checked tree, and bound so many names; nothing is wrong in them but heights
-pub record Ran (γ : Known) (binders : Fields) (writable : List Bool) (high : Option High) (count : ℕ) (later : Env) (becomes : Fields → Type 0) (breaks : Faults) (deeps : Faults) : Type 0 where
+pub record Ran (O : Type 0) (γ : Known) (binders : Fields) (writable : List Bool) (high : Option High) (count : ℕ) (later : Env) (becomes : Fields → Type 0) (breaks : Faults) (deeps : Faults) : Type 0 where
   pub names : Fields
   pub bound : binders ≡ γ.binders ++ names
   pub counted : length names ≡ count
   pub tree : becomes names
   pub agrees : Agrees later (with_binders γ binders writable)
   pub clean : IsClean breaks
-  pub told : Told high deeps
+  pub told : Told O high deeps
 
 abbrev pub RightStmt : Known → Env → RawStmt Link → Result Walked TypeFault → Type 0
-RightStmt γ Γ s (Ok d) = Ran γ d.binders d.writable d.high (bound_by s) (after Γ s) (λ names. BecomesStmt Γ s names d.tree) (λ f. Breaks Γ s f) (λ f. Deeps Γ s f)
-RightStmt γ Γ s (Err f) = IsFirst (λ g. Breaks Γ s g ⊎ Deeps Γ s g) f × (IsClean (λ g. Breaks Γ s g) → ⊥)
+RightStmt γ Γ s (Ok d) = Ran (IsOrdered s) γ d.binders d.writable d.high (bound_by s) (after Γ s) (λ names. BecomesStmt Γ s names d.tree) (λ f. Breaks Γ s f) (λ f. Deeps Γ s f)
+RightStmt γ Γ s (Err f) = IsOrdered s → (IsFirst (λ g. Breaks Γ s g ⊎ Deeps Γ s g) f × (IsClean (λ g. Breaks Γ s g) → ⊥))
 
 abbrev pub RightAll : Known → Env → RawStmts Link → Result AllWalked TypeFault → Type 0
-RightAll γ Γ ss (Ok d) = Ran γ d.binders d.writable d.high (bound_by_all ss) (after_all Γ ss) (λ names. BecomesAll Γ ss names (stmts_of d.trees)) (λ f. BreaksAll Γ ss f) (λ f. DeepsAll Γ ss f)
-RightAll γ Γ ss (Err f) = IsFirst (Offends Γ ss) f × (IsClean (λ g. BreaksAll Γ ss g) → ⊥)
+RightAll γ Γ ss (Ok d) = Ran (AreOrdered ss) γ d.binders d.writable d.high (bound_by_all ss) (after_all Γ ss) (λ names. BecomesAll Γ ss names (stmts_of d.trees)) (λ f. BreaksAll Γ ss f) (λ f. DeepsAll Γ ss f)
+RightAll γ Γ ss (Err f) = AreOrdered ss → (IsFirst (Offends Γ ss) f × (IsClean (λ g. BreaksAll Γ ss g) → ⊥))

@@ -27,9 +27,9 @@ pub fn type_expr(
     expr: &NamedExpr,
 ) -> Result<TypedExpr, TypeFault>
     // The type and the tree are those of the rows of the type table.
-    ensures typed { (end : ℕ) → Ascends (named_expr_of expr.now) end → Uses (IsKnown (known system.now scope.now bound.now)) (named_expr_of expr.now) → IfOk result (λ x. Becomes (env_of (known system.now scope.now bound.now)) (named_expr_of expr.now) (ty_of x.ty) (expr_of x.tree)) }
+    ensures typed { Uses (IsKnown (known system.now scope.now bound.now)) (named_expr_of expr.now) → IfOk result (λ x. Becomes (env_of (known system.now scope.now bound.now)) (named_expr_of expr.now) (ty_of x.ty) (expr_of x.tree)) }
 
-    // A fault is the one with the least offset.
+    // A fault is the one with the least offset, where the offsets stand in text order.
     ensures first { (end : ℕ) → Ascends (named_expr_of expr.now) end → Uses (IsKnown (known system.now scope.now bound.now)) (named_expr_of expr.now) → IfErr result (λ f. (f ≡ NoMemory) ⊎ IsFirst (ExprFaults (env_of (known system.now scope.now bound.now)) (named_expr_of expr.now)) f) }
 {
     let typed = match check_expr(alloc, system, scope, bound, expr) {
