@@ -5,12 +5,13 @@ use Rattle.std.proofs.lemmas.Bool.{false≢true}
 use Rattle.tower_types.specs.Ty.{Ty, Name, Fields}
 use Rattle.tower_syntax.specs.declared.named.Target.{Target}
 use Rattle.tower_syntax.specs.declared.named.Target.TheVariants as target
-use Rattle.tower_syntax.specs.RawTree.{Link, RawPlace, root, get, index, RawExpr, truth, read, lit, un, bin, choose, cast}
+use Rattle.tower_syntax.specs.RawTree.{Link, RawPlace, root, get, index, RawExpr, truth, read, lit, un, bin, choose, cast, RawStmt, bind, local, set, copy, branch, loop, emit}
 use Rattle.arch_types.specs.Typing.{Env}
 use Rattle.arch_types.specs.Body.{with_name, writable_with}
-use Rattle.arch_types.specs.Numbered.{Counts, IsSeen, SeesPlace, Sees}
-use Rattle.arch_types.specs.Walk.{Known, no_type, type_at, known_type, may_write_among, binding}
-use Rattle.arch_types.specs.Right.{IsKnown, env_with, Uses, UsesPlace, Knows, Agrees, counts_of}
+use Rattle.tower_syntax.specs.Typed.{Use, read_only, with_name as with_use, IsInScope}
+use Rattle.arch_types.specs.Numbered.{Counts, past, naming, IsSeen, SeesPlace, Sees, bound_by, bound_by_all, after}
+use Rattle.arch_types.specs.Walk.{Known, no_type, type_at, known_type, may_write_among, with_binders, binding}
+use Rattle.arch_types.specs.Right.{IsKnown, env_with, Uses, UsesPlace, Knows, Agrees, IsWithin}
 use Rattle.arch_types.proofs.Same.{nat_eq_true, nat_eq_refl}
 use Rattle.arch_types.proofs.Within.{one_with}
 
@@ -85,29 +86,63 @@ module _ (γ : Known) (has : Target → Ty → Type 0) (k : Knows γ has) where
     }
 
   -- each use has its type
-  seen : (n : ℕ) (x : Target) → IsSeen (counts_of n γ) x → has x (known_type γ x)
-  seen n (target.Binder b) l = k.knows (target.Binder b) l
-  seen n target.Param l = k.knows target.Param l
-  seen n (target.State b) l = k.knows (target.State b) l
-  seen n (target.Record b) l = absurd l
-  seen n (target.Source b) l = absurd l
-  seen n (target.Channel b) l = absurd l
-  seen n (target.Emitter b) l = absurd l
+  module _ (c : Counts) (w : IsWithin c γ) where
+    seen : (x : Target) → IsSeen c x → has x (known_type γ x)
+    seen (target.Binder b) l = k.knows (target.Binder b) (w.in_scope b l)
+    seen target.Param l = k.knows target.Param l
+    seen (target.State b) l = let m = w.states in k.knows (target.State b) (omega arith)
+    seen (target.Record b) l = absurd l
+    seen (target.Source b) l = absurd l
+    seen (target.Channel b) l = absurd l
+    seen (target.Emitter b) l = absurd l
 
-  mutual
-    pub place_uses : (n : ℕ) (p : RawPlace Link) → SeesPlace (counts_of n γ) p → UsesPlace (λ x. has x (known_type γ x)) p
-    place_uses n (root u) h = seen n u.target h
-    place_uses n (get at p name) h = place_uses n p h
-    place_uses n (index at p e) h = (place_uses n p h.0, expr_uses n e h.1)
+    mutual
+      pub place_uses : (p : RawPlace Link) → SeesPlace c p → UsesPlace (λ x. has x (known_type γ x)) p
+      place_uses (root u) h = seen u.target h
+      place_uses (get at p name) h = place_uses p h
+      place_uses (index at p e) h = (place_uses p h.0, expr_uses e h.1)
 
-    pub expr_uses : (n : ℕ) (e : RawExpr Link) → Sees (counts_of n γ) e → Uses (λ x. has x (known_type γ x)) e
-    expr_uses n (truth at b) h = tt {0}
-    expr_uses n (read p) h = place_uses n p h
-    expr_uses n (lit at s i) h = tt {0}
-    expr_uses n (un at op a) h = expr_uses n a h
-    expr_uses n (bin at op a b) h = (expr_uses n a h.0, expr_uses n b h.1)
-    expr_uses n (choose at c a b) h = (expr_uses n c h.0, expr_uses n a h.1, expr_uses n b h.2)
-    expr_uses n (cast at t a) h = expr_uses n a h.1
+      pub expr_uses : (e : RawExpr Link) → Sees c e → Uses (λ x. has x (known_type γ x)) e
+      expr_uses (truth at b) h = tt {0}
+      expr_uses (read p) h = place_uses p h
+      expr_uses (lit at s i) h = tt {0}
+      expr_uses (un at op a) h = expr_uses a h
+      expr_uses (bin at op a b) h = (expr_uses a h.0, expr_uses b h.1)
+      expr_uses (choose at c a b) h = (expr_uses c h.0, expr_uses a h.1, expr_uses b h.2)
+      expr_uses (cast at t a) h = expr_uses a h.1
+
+-- ---- behind statements, what is in scope is known
+
+module _ (c : Counts) (γ : Known) (w : IsWithin c γ) (binders names : Fields) (writable : List Bool) (e : binders ≡ γ.binders ++ names) where
+  more : length binders ≡ length γ.binders + length names
+  more = ap length e ∙ length-append γ.binders names
+
+  pub within_past : (n : ℕ) → length names ≡ n → IsWithin (past c n) (with_binders γ binders writable)
+  within_past n l = let m = more in record {
+    states = w.states;
+    bound = ap (λ j. j + n) w.bound ∙ ap (λ j. length γ.binders + j) (sym l) ∙ sym m;
+    in_scope = λ b h. let i = w.in_scope b h in omega arith;
+  }
+
+  named : (u : Use) (b : ℕ) (q : Bool) → (b == c.bound) ≡ q → length names ≡ 1 → IsInScope (cond q u (c.names b)) → b < length binders
+  named u b true i l h = let j = nat_eq_true b c.bound i in let m = more in let d = w.bound in omega arith
+  named u b false i l h = let j = w.in_scope b h in let m = more in omega arith
+
+  pub within_naming : (u : Use) → length names ≡ 1 → IsWithin (naming c u) (with_binders γ binders writable)
+  within_naming u l = let m = more in record {
+    states = w.states;
+    bound = ap (λ j. j + 1) w.bound ∙ ap (λ j. length γ.binders + j) (sym l) ∙ sym m;
+    in_scope = λ b h. named u b (b == c.bound) refl l h;
+  }
+
+  pub within_after : (s : RawStmt Link) → length names ≡ bound_by s → IsWithin (after c s) (with_binders γ binders writable)
+  within_after (bind at i v) l = within_naming read_only l
+  within_after (local at i u) l = within_naming Rattle.tower_syntax.specs.Typed.writable l
+  within_after (set at p v) l = within_past 0 l
+  within_after (copy at p q) l = within_past 0 l
+  within_after (branch at t then_at a else_at b) l = within_past (bound_by_all a + bound_by_all b) l
+  within_after (loop at i n body) l = within_past (suc (bound_by_all body)) l
+  within_after (emit at u v) l = within_past 0 l
 
 -- the relations see no more than what is known
 pub env_is : (Γ : Env) (γ : Known) → Agrees Γ γ → env_with γ Γ.has ≡ Γ

@@ -1,3 +1,11 @@
+pub mod SoundTypes
+pub mod SoundFile
+pub mod SoundExprs
+pub mod SoundStmts
+pub mod SoundHeights
+pub mod SoundHandlers
+pub mod SoundShallow
+pub mod Sound
 pub mod Same
 pub mod Steps
 pub mod Fields
@@ -14,3 +22,4 @@ pub mod Agreed
 pub mod StmtFirst
 pub mod BranchFirst
 pub mod StmtRight
+pub mod Gathered

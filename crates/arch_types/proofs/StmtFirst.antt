@@ -18,7 +18,7 @@ use Rattle.arch_types.specs.Order.{AscendsPlace, Ascends, start_in, AscendsStmt,
 use Rattle.arch_types.specs.Numbered.{bound_by, bound_by_all, SeesStmt, SeesAll}
 use Rattle.arch_types.specs.Walk.{Known, TypedExpr, TypedPlace, and_then, tested, scalar_in, too_high, high_expr, high_place, deep, earlier, first_high, behind, Walked, AllWalked, with_binders, binding, plain, joined, walked, walked_all, typed, typed_place}
 use Rattle.arch_types.specs.Walk as walk
-use Rattle.arch_types.specs.Right.{env_with, Right, RightPlace, IsOrdered, AreOrdered, Told, Knows, Agrees, counts_of, Ran, RightStmt, RightAll}
+use Rattle.arch_types.specs.Right.{env_with, Right, RightPlace, IsOrdered, AreOrdered, Told, Knows, Agrees, Ran, RightStmt, RightAll}
 use Rattle.arch_types.proofs.Same.{same_true}
 use Rattle.arch_types.proofs.Nodes.{Within, Spans, unless_none}
 use Rattle.arch_types.proofs.Typing.{one_expr}

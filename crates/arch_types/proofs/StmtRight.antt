@@ -13,13 +13,14 @@ use Rattle.arch_types.specs.Offence.{Faults, offset, IsClean, IsFirst}
 use Rattle.arch_types.specs.Typing.{Env}
 use Rattle.arch_types.specs.Body.{with_loop, after, after_all, Breaks, BreaksAll, Deeps, DeepsAll, Offends}
 use Rattle.arch_types.specs.Order.{start_in, AscendsStmt, AscendsAll}
-use Rattle.arch_types.specs.Numbered.{Counts, bound_by, bound_by_all, SeesStmt, SeesAll}
+use Rattle.arch_types.specs.Numbered.{Counts, past, naming, bound_by, bound_by_all, after as seen_after, SeesStmt, SeesAll}
+use Rattle.tower_syntax.specs.Typed.{read_only}
 use Rattle.arch_types.specs.Walk.{Known, and_then, deep, earlier, first_high, Walked, AllWalked, with_binders, binding, joined, walked, walked_all, typed, typed_place}
-use Rattle.arch_types.specs.Right.{env_with, IsOrdered, AreOrdered, Told, Knows, Agrees, counts_of, RightStmt, RightAll}
+use Rattle.arch_types.specs.Right.{env_with, IsOrdered, AreOrdered, Told, Knows, Agrees, IsWithin, RightStmt, RightAll}
 use Rattle.arch_types.proofs.First.{right, right_place}
 use Rattle.arch_types.proofs.Sequence.{first_left, told_right, told_first, told_within, first_of_same, clean_both}
 use Rattle.arch_types.proofs.Within.{offends_inside, all_offends_inside}
-use Rattle.arch_types.proofs.Agreed.{still, binds, place_uses, expr_uses, env_is, longer}
+use Rattle.arch_types.proofs.Agreed.{still, binds, place_uses, expr_uses, within_past, within_naming, within_after, env_is}
 use Rattle.arch_types.proofs.StmtFirst.{joined_bound, joined_count, let_right, local_right, set_right, copy_right, loop_right, emit_right}
 use Rattle.arch_types.proofs.BranchFirst.{branch_right}
 
@@ -94,41 +95,34 @@ module _ (γ : Known) (has : Target → Ty → Type 0) (k : Knows γ has) (s : R
       λ m. n (λ g y. m g (inl y)))
   list_right (Ok w) next h later = joined_right w (next w) h (later w h)
 
--- the names are known behind a statement too
-seen_after : (n m : ℕ) (γ : Known) (binders names : Fields) (writable : _) (ss : RawStmts Link) → binders ≡ γ.binders ++ names → length names ≡ m
-    → SeesAll (record { records = n; states = length γ.states; emitters = length γ.emitters; binders = length γ.binders + m }) ss → SeesAll (counts_of n (with_binders γ binders writable)) ss
-seen_after n m γ binders names writable ss e l h =
-    let d : length γ.binders + m ≡ length binders = ap (λ j. length γ.binders + j) (sym l) ∙ sym (length-append γ.binders names) ∙ ap length (sym e) in
-    subst (λ j. SeesAll (record { records = n; states = length γ.states; emitters = length γ.emitters; binders = j }) ss) d h
-
 pub seen_by : (γ : Known) (Γ : Env) (ss : RawStmts Link) (r : Result AllWalked TypeFault) → Agrees Γ γ → RightAll γ (env_with γ Γ.has) ss r → RightAll γ Γ ss r
 seen_by γ Γ ss r a h = subst (λ E. RightAll γ E ss r) (env_is Γ γ a) h
 
 mutual
-  pub right_stmt : (s : RawStmt Link) (n : ℕ) (γ : Known) (has : Target → Ty → Type 0) → Knows γ has → SeesStmt (counts_of n γ) s → RightStmt γ (env_with γ has) s (walked γ s)
-  right_stmt (bind at i e) n γ has k u = let_right γ has k at i e (typed γ e) (right γ has k.one e (expr_uses γ has k n e u))
-  right_stmt (local at i t) n γ has k u = local_right γ has k at i t
-  right_stmt (set at p e) n γ has k u =
-      set_right γ has k at p e (typed_place γ p) (typed γ e) (right_place γ has k.one p (place_uses γ has k n p u.0)) (right γ has k.one e (expr_uses γ has k n e u.1))
-  right_stmt (copy at p q) n γ has k u =
-      copy_right γ has k at p q (typed_place γ p) (typed_place γ q) (right_place γ has k.one p (place_uses γ has k n p u.0)) (right_place γ has k.one q (place_uses γ has k n q u.1))
-  right_stmt (branch at c then_at a else_at b) n γ has k u =
-      branch_right γ has k at c then_at a else_at b (typed γ c) (walked_all γ a) (λ w. walked_all (with_binders γ w.binders w.writable) b)
-      (right γ has k.one c (expr_uses γ has k n c u.0))
-      (right_all a n γ has k u.1)
-      (λ w ran. let γ' = with_binders γ w.binders w.writable in
+  pub right_stmt : (s : RawStmt Link) (n : Counts) (γ : Known) (has : Target → Ty → Type 0) → Knows γ has → IsWithin n γ → SeesStmt n s → RightStmt γ (env_with γ has) s (walked γ s)
+  right_stmt (bind at i e) n γ has k w u = let_right γ has k at i e (typed γ e) (right γ has k.one e (expr_uses γ has k n w e u))
+  right_stmt (local at i t) n γ has k w u = local_right γ has k at i t
+  right_stmt (set at p e) n γ has k w u =
+      set_right γ has k at p e (typed_place γ p) (typed γ e) (right_place γ has k.one p (place_uses γ has k n w p u.0)) (right γ has k.one e (expr_uses γ has k n w e u.1))
+  right_stmt (copy at p q) n γ has k w u =
+      copy_right γ has k at p q (typed_place γ p) (typed_place γ q) (right_place γ has k.one p (place_uses γ has k n w p u.0)) (right_place γ has k.one q (place_uses γ has k n w q u.1))
+  right_stmt (branch at c then_at a else_at b) n γ has k w u =
+      branch_right γ has k at c then_at a else_at b (typed γ c) (walked_all γ a) (λ l. walked_all (with_binders γ l.binders l.writable) b)
+      (right γ has k.one c (expr_uses γ has k n w c u.0))
+      (right_all a n γ has k w u.1)
+      (λ l ran. let γ' = with_binders γ l.binders l.writable in
       seen_by γ' (after_all (env_with γ has) a) b (walked_all γ' b) ran.agrees
-      (right_all b n γ' (after_all (env_with γ has) a).has ran.agrees.has (seen_after n (bound_by_all a) γ w.binders ran.names w.writable b ran.bound ran.counted u.2)))
-  right_stmt (loop at i times body) n γ has k u =
+      (right_all b (past n (bound_by_all a)) γ' (after_all (env_with γ has) a).has ran.agrees.has (within_past n γ w l.binders ran.names l.writable ran.bound (bound_by_all a) ran.counted) u.2))
+  right_stmt (loop at i times body) n γ has k w u =
       let γ' = binding γ i.name (scalar (is.Ix times)) false in
       let a = binds γ has k i.name (scalar (is.Ix times)) (λ t. t ≡ scalar (is.Ix times)) false refl (λ t v h j. h ∙ sym j) in
       loop_right γ has k at i times body (walked_all γ' body)
       (seen_by γ' (with_loop (env_with γ has) times) body (walked_all γ' body) a
-      (right_all body n γ' (with_loop (env_with γ has) times).has a.has (seen_after n 1 γ γ'.binders ((i.name, scalar (is.Ix times)) ∷ []) γ'.writable body refl refl u.2)))
-  right_stmt (emit at v e) n γ has k u = emit_right γ has k at v e (typed γ e) (right γ has k.one e (expr_uses γ has k n e u.1))
+      (right_all body (naming n read_only) γ' (with_loop (env_with γ has) times).has a.has (within_naming n γ w γ'.binders ((i.name, scalar (is.Ix times)) ∷ []) γ'.writable refl read_only refl) u.2))
+  right_stmt (emit at v e) n γ has k w u = emit_right γ has k at v e (typed γ e) (right γ has k.one e (expr_uses γ has k n w e u.1))
 
-  pub right_all : (ss : RawStmts Link) (n : ℕ) (γ : Known) (has : Target → Ty → Type 0) → Knows γ has → SeesAll (counts_of n γ) ss → RightAll γ (env_with γ has) ss (walked_all γ ss)
-  right_all no_stmts n γ has k u = record {
+  pub right_all : (ss : RawStmts Link) (n : Counts) (γ : Known) (has : Target → Ty → Type 0) → Knows γ has → IsWithin n γ → SeesAll n ss → RightAll γ (env_with γ has) ss (walked_all γ ss)
+  right_all no_stmts n γ has k w u = record {
     names = [];
     bound = sym (append-nil γ.binders);
     counted = refl;
@@ -137,9 +131,9 @@ mutual
     clean = λ f x. x;
     told = λ f x. x;
   }
-  right_all (stmt s ss) n γ has k u =
-      list_right γ has k s ss (walked γ s) (λ w. walked_all (with_binders γ w.binders w.writable) ss)
-      (right_stmt s n γ has k u.0)
-      (λ w ran. let γ' = with_binders γ w.binders w.writable in
+  right_all (stmt s ss) n γ has k w u =
+      list_right γ has k s ss (walked γ s) (λ d. walked_all (with_binders γ d.binders d.writable) ss)
+      (right_stmt s n γ has k w u.0)
+      (λ d ran. let γ' = with_binders γ d.binders d.writable in
       seen_by γ' (after (env_with γ has) s) ss (walked_all γ' ss) ran.agrees
-      (right_all ss n γ' (after (env_with γ has) s).has ran.agrees.has (seen_after n (bound_by s) γ w.binders ran.names w.writable ss ran.bound ran.counted u.1)))
+      (right_all ss (seen_after n s) γ' (after (env_with γ has) s).has ran.agrees.has (within_after n γ w d.binders ran.names d.writable ran.bound s ran.counted) u.1))

@@ -10,3 +10,5 @@ pub mod File
 pub mod Numbered
 pub mod Right
 pub mod Worked
+pub mod Shallow
+pub mod Laws

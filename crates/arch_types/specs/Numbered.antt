@@ -9,6 +9,7 @@ use Rattle.tower_syntax.specs.declared.arch.SourceKind.TheVariants as kind
 use Rattle.tower_syntax.specs.RawTree.{Id, Link, RawType, word, rec, array, RawPlace, root, get, index, RawExpr, truth, read, lit, un, bin, choose, cast, RawStmt, bind, local, set, copy, branch, loop, emit, RawStmts, no_stmts, stmt, RawField, RawHpart, emitter, callback, RawPart, state, handler, RawItem, fields, init, period, signal, channel, output, monitor, Raw}
 use Rattle.tower_syntax.specs.Arch.{Arch}
 use Rattle.tower_syntax.specs.WellNumbered.{has_depth}
+use Rattle.tower_syntax.specs.Typed.{Use, read_only, writable, Names, no_names, with_name, IsInScope}
 use Rattle.tower_syntax.specs.Weights.{states_of}
 use Rattle.arch_types.specs.Body.{height, place_height}
 use Rattle.arch_types.specs.Outline.{each, outline, Written, handlers_of, emitter_of, callback_of, on_of, handlers_in}
@@ -39,19 +40,25 @@ IsDeclaredType n t = IsWrittenType n t × (type_nesting t ≤ 256)
 
 -- ---- the names of a callback
 
--- so many records, states, emitters and names bound so far
+-- so many records, states and emitters; which names are in scope; and how many were bound so far
 pub record Counts : Type 0 where
   pub records : ℕ
   pub states : ℕ
   pub emitters : ℕ
-  pub binders : ℕ
+  pub names : Names
+  pub bound : ℕ
 
-abbrev pub bound_with : Counts → ℕ → Counts
-bound_with c n = record { records = c.records; states = c.states; emitters = c.emitters; binders = c.binders + n }
+-- the same names in scope, where so many more were bound
+abbrev pub past : Counts → ℕ → Counts
+past c n = record { records = c.records; states = c.states; emitters = c.emitters; names = c.names; bound = c.bound + n }
+
+-- one name more
+abbrev pub naming : Counts → Use → Counts
+naming c u = record { records = c.records; states = c.states; emitters = c.emitters; names = with_name c.bound u c.names; bound = c.bound + 1 }
 
 abbrev pub IsSeen : Counts → Target → Type 0
 IsSeen c target.Param = Unit {0}
-IsSeen c (target.Binder b) = b < c.binders
+IsSeen c (target.Binder b) = IsInScope (c.names b)
 IsSeen c (target.State k) = k < c.states
 IsSeen c x = ⊥
 
@@ -89,19 +96,25 @@ abbrev mutual
   bound_by_all no_stmts = 0
   bound_by_all (stmt s ss) = bound_by s + bound_by_all ss
 
+-- what the next statement sees: the names of a branch or loop end with it
+abbrev pub after : Counts → RawStmt Link → Counts
+after c (bind at i e) = naming c read_only
+after c (local at i u) = naming c writable
+after c s = past c (bound_by s)
+
 abbrev mutual
   pub SeesStmt : Counts → RawStmt Link → Type 0
   SeesStmt c (bind at i e) = Sees c e
   SeesStmt c (local at i u) = IsDeclaredType c.records u
   SeesStmt c (set at p e) = SeesPlace c p × Sees c e
   SeesStmt c (copy at p q) = SeesPlace c p × SeesPlace c q
-  SeesStmt c (branch at t then_at a else_at b) = Sees c t × SeesAll c a × SeesAll (bound_with c (bound_by_all a)) b
-  SeesStmt c (loop at i n body) = (1 ≤ n) × (n ≤ 65536) × SeesAll (bound_with c 1) body
+  SeesStmt c (branch at t then_at a else_at b) = Sees c t × SeesAll c a × SeesAll (past c (bound_by_all a)) b
+  SeesStmt c (loop at i n body) = (1 ≤ n) × (n ≤ 65536) × SeesAll (naming c read_only) body
   SeesStmt c (emit at u e) = IsEmitter c u.target × Sees c e
 
   pub SeesAll : Counts → RawStmts Link → Type 0
   SeesAll c no_stmts = Unit {0}
-  SeesAll c (stmt s ss) = SeesStmt c s × SeesAll (bound_with c (bound_by s)) ss
+  SeesAll c (stmt s ss) = SeesStmt c s × SeesAll (after c s) ss
 
 -- how deep statements are nested
 abbrev mutual
@@ -136,7 +149,7 @@ IsPartOf arch c (callback at i ss) = SeesAll c ss × (nested_all ss ≤ 256) × 
 pub record IsHandler (arch : Arch) (h : Written) : Type 0 where
   pub on : IsHeard arch h.on.target
   pub few : length (each emitter_of h.parts) ≤ 2 ^ 32
-  pub parts : All (IsPartOf arch (record { records = length arch.records; states = length (states_of arch h.monitor); emitters = length (each emitter_of h.parts); binders = 0 })) h.parts
+  pub parts : All (IsPartOf arch (record { records = length arch.records; states = length (states_of arch h.monitor); emitters = length (each emitter_of h.parts); names = no_names; bound = 0 })) h.parts
 
 abbrev pub IsState : ℕ → RawPart Link → Type 0
 IsState records (state at i t) = IsDeclaredType records t

@@ -1,10 +1,11 @@
 -- What the walk over expressions, places and statements is to give, where each name that there is has its type.
-use Rattle.std.specs.Prelude.{◌≡◌, ◌⊎◌, ◌<◌, ◌++◌, ℕ, List, length, Bool, Option, Some, None, Result, Ok, Err}
+use Rattle.std.specs.Prelude.{◌≡◌, ◌⊎◌, ◌<◌, ◌≤◌, ◌++◌, ℕ, List, length, Bool, Option, Some, None, Result, Ok, Err}
 use Rattle.tower_types.specs.Ty.{Ty, Fields}
 use Rattle.tower_syntax.specs.declared.named.Target.{Target}
 use Rattle.tower_syntax.specs.declared.named.Target.TheVariants as target
 use Rattle.tower_syntax.specs.RawTree.{Link, RawPlace, root, get, index, RawExpr, truth, read, lit, un, bin, choose, cast, RawStmt, RawStmts}
 use Rattle.tower_syntax.specs.View.{stmts_of}
+use Rattle.tower_syntax.specs.Typed.{IsInScope}
 use Rattle.arch_types.specs.declared.fault.TypeFault.{TypeFault}
 use Rattle.arch_types.specs.declared.high.High.{High}
 use Rattle.arch_types.specs.Offence.{Faults, IsClean, IsFirst}
@@ -84,9 +85,11 @@ pub record Agrees (Γ : Env) (γ : Known) : Type 0 where
   pub bound : Γ.bound ≡ length γ.binders
   pub has : Knows γ Γ.has
 
--- so many records, and what else is known
-abbrev pub counts_of : ℕ → Known → Counts
-counts_of n γ = record { records = n; states = length γ.states; emitters = length γ.emitters; binders = length γ.binders }
+-- each name in scope is known
+pub record IsWithin (c : Counts) (γ : Known) : Type 0 where
+  pub states : c.states ≤ length γ.states
+  pub bound : c.bound ≡ length γ.binders
+  pub in_scope : (b : ℕ) → IsInScope (c.names b) → b < length γ.binders
 
 abbrev pub IsOrdered : RawStmt Link → Type 0
 IsOrdered s = (end : ℕ) × AscendsStmt s end

@@ -9,6 +9,7 @@ ghost use Rattle.arch_types.specs.Order.{Ascends};
 ghost use Rattle.arch_types.specs.Right.{IsKnown, env_of, Uses};
 ghost use Rattle.arch_types.specs.Seen.{known};
 ghost use Rattle.arch_types.specs.Worked.{WorkedTypes};
+ghost use Rattle.arch_types.specs.Laws.{CheckedLaw, ShallowLaw};
 ghost use Rattle.arch_types.specs.declared.fault.TypeFault.TheVariants.{NoMemory};
 
 use crate::exprs::check_expr;
@@ -42,6 +43,16 @@ pub fn type_expr(
 /// Worked statements. The body is empty: the check computes what the contract says.
 pub fn worked_types()
     ensures { WorkedTypes }
+{}
+
+/// The checked tree of a file whose names are numbered is well numbered and typed.
+pub fn checked_law()
+    ensures { CheckedLaw }
+{}
+
+/// The checked tree of a file without offence has no expression or place above height 24.
+pub fn shallow_law()
+    ensures { ShallowLaw }
 {}
 
 /// Trial.

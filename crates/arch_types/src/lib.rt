@@ -17,7 +17,7 @@ pub use exprs::{check_expr, check_place};
 pub use fault::{TypeFault, Want};
 pub use heights::{height, place_height};
 pub use high::High;
-pub use laws::{type_expr, worked_types};
+pub use laws::{checked_law, shallow_law, type_expr, worked_types};
 pub use rows::{TypedExpr, TypedPlace};
 pub use scope::{Bound, Scope};
 pub use stmts::{AllChecked, Checked, check_stmts};
