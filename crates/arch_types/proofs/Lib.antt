@@ -23,3 +23,4 @@ pub mod StmtFirst
 pub mod BranchFirst
 pub mod StmtRight
 pub mod Gathered
+pub mod Declares

@@ -83,7 +83,7 @@ element_declared n len t h = record { written = h.written.2; low = let l = h.low
 pub numbered_type : (n : ℕ) (t : Ty) → Declared n t → IsNumberedType n t
 numbered_type n t h = (named n t h.written, h.low)
 
-among : (n : ℕ) (t : Ty) → Declared n t → IsTypeAmong n t
+pub among : (n : ℕ) (t : Ty) → Declared n t → IsTypeAmong n t
 among n t h = (named n t h.written, let e = nested t in let l = h.low in omega arith)
 
 abbrev pub AreDeclared : ℕ → Fields → Type 0

@@ -12,7 +12,7 @@ use Rattle.tower_syntax.specs.WellNumbered.{has_depth}
 use Rattle.tower_syntax.specs.Typed.{Use, read_only, writable, Names, no_names, with_name, IsInScope}
 use Rattle.tower_syntax.specs.Weights.{states_of}
 use Rattle.arch_types.specs.Body.{height, place_height}
-use Rattle.arch_types.specs.Outline.{each, outline, Written, handlers_of, emitter_of, callback_of, on_of, handlers_in}
+use Rattle.arch_types.specs.Outline.{each, record_of, outline, Written, handlers_of, emitter_of, callback_of, on_of, handlers_in}
 
 -- ---- types
 
@@ -172,3 +172,13 @@ pub record IsNumbered (raw : Raw Link) : Type 0 where
   pub few_handlers : length (handlers_of raw) ≤ 2 ^ 32
   pub items : AreItems (outline raw) raw.version 0 raw.items
   pub handlers : All (IsHandler (outline raw)) (handlers_of raw)
+
+-- the fields of a record, where so many records stand before it
+abbrev pub DeclaresFields : ℕ → RawItem Link → Type 0
+DeclaresFields n (fields at i fs) = All (λ f. IsDeclaredType n f.ty) fs
+DeclaresFields n x = Unit {0}
+
+-- each record's fields may name the records before it
+abbrev pub DeclareRecords : ℕ → List (RawItem Link) → Type 0
+DeclareRecords n [] = Unit {0}
+DeclareRecords n (x ∷ xs) = DeclaresFields n x × DeclareRecords (n + length (record_of x)) xs

@@ -6,6 +6,8 @@ mod fault;
 mod heights;
 mod high;
 mod laws;
+mod listeners;
+mod outline;
 mod rows;
 mod scope;
 mod stmts;
