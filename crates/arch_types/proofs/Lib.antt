@@ -24,3 +24,7 @@ pub mod BranchFirst
 pub mod StmtRight
 pub mod Gathered
 pub mod Declares
+pub mod Listed
+pub mod Turned
+pub mod Entry
+pub mod FileRight

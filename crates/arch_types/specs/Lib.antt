@@ -8,6 +8,7 @@ pub mod Seen
 pub mod Outline
 pub mod File
 pub mod Numbered
+pub mod Turns
 pub mod Right
 pub mod Worked
 pub mod Shallow

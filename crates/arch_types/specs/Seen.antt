@@ -1,5 +1,5 @@
 -- What the program's values stand for.
-use Rattle.std.specs.Prelude.{ℕ, List, map}
+use Rattle.std.specs.Prelude.{ℕ, List, [], map}
 use Rattle.tower_types.specs.declared.scalar.Scalar.TheVariants.{Bool as bool}
 use Rattle.tower_types.specs.Ty.{Fields, scalar}
 use Rattle.tower_types.specs.View.{ty_of, fields_of}
@@ -60,3 +60,15 @@ stmt_in c bound = record { high = c.high; tree = stmt_of c.tree; binders = field
 
 abbrev pub stmts_in : AllCheckedValue → Bound → AllWalked
 stmts_in c bound = record { high = c.high; trees = map stmt_of c.trees; binders = fields_of bound.names; writable = bound.writable }
+
+-- where no name is bound yet
+abbrev pub known_at_entry : ArchParts → Scope → Known
+known_at_entry system scope = record {
+  names = system.record_names;
+  records = system.records;
+  message = ty_of scope.message;
+  states = states_in system scope.monitor;
+  emitters = messages (arch_of system) (map emitter_of scope.emitters);
+  binders = [];
+  writable = [];
+}

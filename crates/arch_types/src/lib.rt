@@ -1,6 +1,7 @@
 //! The types of a file: the checked tree, or the first fault.
 #![tactic(auto)]
 
+mod check;
 mod exprs;
 mod fault;
 mod heights;
@@ -15,6 +16,7 @@ mod text;
 mod wanted;
 
 
+pub use check::check_types;
 pub use exprs::{check_expr, check_place};
 pub use fault::{TypeFault, Want};
 pub use heights::{height, place_height};
