@@ -1,6 +1,8 @@
 -- A list whose elements are gone through in turn, as far as it is.
 use Rattle.std.proofs.Common.{◌≡◌, ◌⊎◌, inl, inr, ℕ, suc, ◌+◌, ◌<◌, ◌≤◌, List, [], ◌∷◌, ◌++◌, map, length, take, drop, get_or, Result, Ok, Err, refl, sym, ap, subst, ◌∙◌, append_assoc, append-nil, add-one, drop-cons, take-append-drop}
 use Rattle.std.proofs.lemmas.List.{take_all, map-append}
+use Rattle.std.specs.Result.{IsErrAnd, IfErr}
+use Rattle.std.proofs.lemmas.Result.{err_from_is_err_and}
 use Rattle.tower_syntax.specs.RawTree.{Link, RawPart, RawItem, monitor}
 use Rattle.tower_syntax.specs.Arch.{Handler}
 use Rattle.arch_types.specs.declared.fault.TypeFault.{TypeFault}
@@ -10,6 +12,12 @@ use Rattle.arch_types.specs.Walk.{and_then, Gives}
 use Rattle.arch_types.specs.Turns.{in_turn, put_after, Went, Stops}
 use Rattle.arch_types.proofs.Gathered.{map_take_more, each-append, each-push}
 use Rattle.arch_types.proofs.Listed.{next_of, none_of}
+
+pub exit_gives : {T A : Type 0} (r : Result T TypeFault) (see : T → A) (computed : Result A TypeFault) (f : TypeFault) → IsErrAnd r (λ x. x ≡ f) → (f ≡ fault.NoMemory) ⊎ (computed ≡ Err f) → Gives see computed r
+exit_gives r see computed f h q = let p = err_from_is_err_and r h in rw (p.1, p.2) q
+
+pub exit_stops : {T : Type 0} (r : Result T TypeFault) (P : TypeFault → Type 0) (f : TypeFault) → IsErrAnd r (λ x. x ≡ f) → P f → IfErr r P
+exit_stops r P f h q = let p = err_from_is_err_and r h in rw (p.1, p.2) q
 
 put_none : {Y : Type 0} (r : Result (List Y) TypeFault) → put_after [] r ≡ r
 put_none (Ok ys) = refl
@@ -101,3 +109,6 @@ module _ {R : Type 0} (raw : R → RawItem Link) (f : Written → Result Handler
     | inl j ↦ inl j
     | inr j ↦ inr (h.went ∙ ap (λ r. put_after made (in_turn f (handlers_from n r))) (next_of raw xs i y e l) ∙ ap (put_after made) (j (map raw (drop (i + 1) xs))))
   ]
+
+pub of_items : {R : Type 0} (raw : R → RawItem Link) (f : Written → Result Handler TypeFault) (slice items : List R) (r : Result (List Handler) TypeFault) → slice ≡ items → in_turn f (handlers_from 0 (map raw slice)) ≡ r → in_turn f (handlers_from 0 (map raw items)) ≡ r
+of_items raw f slice items r e h = subst (λ xs. in_turn f (handlers_from 0 (map raw xs)) ≡ r) e h

@@ -7,7 +7,7 @@ use Rattle.tower_syntax.specs.Weights.{states_of}
 use Rattle.arch_types.specs.declared.fault.TypeFault.{TypeFault}
 use Rattle.arch_types.specs.declared.fault.TypeFault.TheVariants as fault
 use Rattle.arch_types.specs.declared.high.High.{High}
-use Rattle.arch_types.specs.Outline.{each, Written, on_of, emitter_of, callback_of}
+use Rattle.arch_types.specs.Outline.{each, Written, on_of, emitter_of, callback_of, handlers_from}
 use Rattle.arch_types.specs.File.{message_on, messages}
 use Rattle.arch_types.specs.Walk.{Known, and_then, deep, AllWalked, walked_all}
 
@@ -56,3 +56,10 @@ handled arch w = and_then (in_turn (bodied (known_in arch w)) (each callback_of 
   emitters = each emitter_of w.parts;
   callbacks = bs;
 }))
+
+-- the same of an item, whose handlers are those of the monitor with this number; the next monitor's number behind it
+abbrev pub WentItem : (Written → Result Handler TypeFault) → List Handler → ℕ → RawItem Link → List Handler → ℕ → Type 0
+WentItem f old m item new n = (rest : List (RawItem Link)) → put_after old (in_turn f (handlers_from m (item ∷ rest))) ≡ put_after new (in_turn f (handlers_from n rest))
+
+abbrev pub StopsItem : (Written → Result Handler TypeFault) → ℕ → RawItem Link → TypeFault → Type 0
+StopsItem f m item e = (e ≡ fault.NoMemory) ⊎ ((rest : List (RawItem Link)) → in_turn f (handlers_from m (item ∷ rest)) ≡ Err e)

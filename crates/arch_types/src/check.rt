@@ -1,6 +1,5 @@
 //! The types of a whole file.
-ghost use Rattle.std.specs.Prelude.{◌≡◌, ◌⊎◌, ◌∷◌, ℕ, List, map, Err, OnOk, IfOk, IfErr};
-ghost use Rattle.tower_syntax.specs.RawTree.{Link, RawItem};
+ghost use Rattle.std.specs.Prelude.{◌≡◌, ◌⊎◌, ℕ, map, OnOk, IfOk, IfErr};
 ghost use Rattle.tower_syntax.specs.RawView.{id_of};
 ghost use Rattle.tower_syntax.specs.NamedView.{link_of, all_named_stmts_of, named_hpart_of, named_part_of, named_item_of, named_of};
 ghost use Rattle.tower_types.specs.View.{ty_of};
@@ -12,8 +11,8 @@ ghost use Rattle.arch_types.specs.File.{IsChecked, Offence, AscendsFile, message
 ghost use Rattle.arch_types.specs.Numbered.{IsNumbered};
 ghost use Rattle.arch_types.specs.Walk.{Gives};
 ghost use Rattle.arch_types.specs.Seen.{known_at_entry};
-ghost use Rattle.arch_types.specs.Turns.{in_turn, put_after, Went, Stops, bodied, known_in, handled};
-ghost use Rattle.arch_types.specs.declared.fault.TypeFault.TheVariants.{NoMemory};
+ghost use Rattle.arch_types.specs.Turns.{in_turn, Went, Stops, bodied, handled, WentItem, StopsItem};
+ghost use Rattle.arch_types.specs.declared.fault.TypeFault.TheVariants as fault;
 
 use crate::fault::TypeFault;
 use crate::listeners::next;
@@ -178,8 +177,8 @@ fn add_monitor(
     monitor: u32,
     item: &NamedItem,
 ) -> Result<u32, TypeFault>
-    ensures ok { IfOk result (λ n. (rest : List (RawItem Link)) → put_after (map handler_of made.old) (in_turn (handled (arch_of system.now)) (handlers_from monitor (named_item_of item.now ∷ rest))) ≡ put_after (map handler_of made.new) (in_turn (handled (arch_of system.now)) (handlers_from n rest))) }
-    ensures err { IfErr result (λ f. (f ≡ NoMemory) ⊎ ((rest : List (RawItem Link)) → in_turn (handled (arch_of system.now)) (handlers_from monitor (named_item_of item.now ∷ rest)) ≡ Err f)) }
+    ensures ok { IfOk result (λ n. WentItem (handled (arch_of system.now)) (map handler_of made.old) monitor (named_item_of item.now) (map handler_of made.new) n) }
+    ensures err { IfErr result (StopsItem (handled (arch_of system.now)) monitor (named_item_of item.now)) }
 {
     match item {
         NamedItem::Monitor { parts, .. } => {
@@ -222,7 +221,7 @@ pub fn check_types(alloc: Global, named: &Named) -> Result<Arch, TypeFault>
     ensures typed { IfOk result IsTyped }
 
     // A fault is the offence with the least offset, where the offsets stand in text order.
-    ensures first { (end : ℕ) → AscendsFile (named_of named.now) end → IfErr result (λ f. (f ≡ NoMemory) ⊎ IsFirst (Offence (named_of named.now)) f) }
+    ensures first { (end : ℕ) → AscendsFile (named_of named.now) end → IfErr result (λ f. (f ≡ fault.NoMemory) ⊎ IsFirst (Offence (named_of named.now)) f) }
 {
     let mut parts = outline(alloc, named)?;
     let handlers = check_handlers(alloc, &parts, named.items.as_slice())?;

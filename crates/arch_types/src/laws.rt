@@ -54,8 +54,3 @@ pub fn checked_law()
 pub fn shallow_law()
     ensures { ShallowLaw }
 {}
-
-/// Trial.
-pub fn trial()
-    ensures { Unit {0} }
-{}
