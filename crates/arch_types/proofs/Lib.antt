@@ -1,3 +1,4 @@
+pub mod NumberRows
 pub mod SoundTypes
 pub mod SoundFile
 pub mod SoundExprs
@@ -5,6 +6,7 @@ pub mod SoundStmts
 pub mod SoundHeights
 pub mod SoundHandlers
 pub mod SoundShallow
+pub mod SoundOnce
 pub mod Sound
 pub mod Same
 pub mod Steps

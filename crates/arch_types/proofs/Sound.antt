@@ -1,18 +1,19 @@
 -- The checked tree of a file whose names are numbered is well numbered and typed.
-use Rattle.std.proofs.Common.{◌≡◌, ℕ, suc, ◌≤◌, ◌^◌, List, [], ◌∷◌, length, All, refl, ap, sym, subst, ◌∙◌, arith}
+use Rattle.std.proofs.Common.{◌≡◌, ℕ, suc, List, [], ◌∷◌, length, All, refl, ap, sym, subst, ◌∙◌, arith}
 use Rattle.std.proofs.lemmas.List.Elements.{All-weaker}
 use Rattle.tower_types.specs.Ty.{Fields}
 use Rattle.tower_syntax.specs.RawTree.{Link, Raw}
 use Rattle.tower_syntax.specs.declared.arch.SourceKind.{SourceKind}
 use Rattle.tower_syntax.specs.declared.arch.SourceKind.TheVariants as kind
-use Rattle.tower_syntax.specs.Arch.{Arch, Source, Channel, Monitor, Handler}
+use Rattle.tower_syntax.specs.Arch.{Arch, Source, Handler}
 use Rattle.tower_syntax.specs.Graph.{numbers_before}
 use Rattle.tower_syntax.specs.WellNumbered.{IsNumberedType, IsNumberedSource, IsNumberedHandler, AreNumberedFields, IsWellNumbered}
 use Rattle.tower_syntax.specs.Typed.{IsProperType, AreProperFields, HasItsMessage, IsTypedHandler, IsTyped}
 use Rattle.arch_types.specs.Outline.{outline, with_handlers, Written, handlers_of}
 use Rattle.arch_types.specs.File.{AreHandlers, IsChecked}
 use Rattle.arch_types.specs.Numbered.{IsNumbered}
-use Rattle.arch_types.specs.Laws.{CheckedLaw}
+use Rattle.arch_types.specs.Scalars.{AreProperStmts}
+use Rattle.arch_types.specs.Laws.{CheckedLaw, ScalarsLaw}
 use Rattle.arch_types.proofs.SoundTypes.{Declared, AreDeclared, numbered_type, numbered_fields, ordered, records_numbered, proper}
 use Rattle.arch_types.proofs.SoundFile.{few_records, few_sources, few_channels, few_outputs, few_monitors, names_of_records, IsShortRecord, HasMessage, IsSource, sources_are, channels_are, outputs_are, monitors_are, monitors_exist, outputs_listed, handlers_listed}
 use Rattle.arch_types.proofs.SoundHandlers.{formed, IsRight, all_right}
@@ -93,3 +94,7 @@ typed raw arch n c = subst IsTyped (sym c.outlined) (tree_typed raw n arch.handl
 
 pub checked : CheckedLaw
 checked raw arch n c = (well_numbered raw arch n c, typed raw arch n c)
+
+pub proper_scalars : ScalarsLaw
+proper_scalars raw arch n c =
+    All-weaker (IsRight raw arch.handlers n) (λ h. All (λ b. AreProperStmts b.stmts) h.callbacks) (λ x r. r.proper) arch.handlers (rights raw n arch.handlers c.handlers)

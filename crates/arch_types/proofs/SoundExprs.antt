@@ -1,6 +1,5 @@
 -- What a place or expression becomes has its type: as a shape, by names in scope.
-use Rattle.std.proofs.Common.{◌≡◌, ℕ, zero, suc, ◌+◌, ◌<◌, ◌≤◌, List, [], ◌∷◌, ◌++◌, length, map, get_or, slice_get, slice_index_or, Bool, true, false, IsTrue, bytes_eq, Option, Some, None, All, refl, ap, sym, subst, ◌∙◌, arith}
-use Rattle.std.specs.Option.{option_map}
+use Rattle.std.proofs.Common.{◌≡◌, ℕ, zero, suc, ◌<◌, ◌≤◌, List, [], ◌∷◌, ◌++◌, length, map, get_or, slice_index_or, Bool, true, false, IsTrue, bytes_eq, Option, Some, None, refl, ap, sym, subst, ◌∙◌, arith}
 use Rattle.std.proofs.lemmas.List.{length-map}
 use Rattle.std.proofs.lemmas.List.Elements.{All-head, All-tail}
 use Rattle.std.proofs.lemmas.Option.{same_Some, none-some, slice_get-get_or}
@@ -8,21 +7,21 @@ use Rattle.tower_types.specs.declared.scalar.Scalar.{Scalar}
 use Rattle.tower_types.specs.declared.scalar.Scalar.TheVariants as is
 use Rattle.tower_types.specs.declared.scalar.BinOp.{BinOp}
 use Rattle.tower_types.specs.declared.scalar.BinOp.TheVariants as op
-use Rattle.tower_types.specs.Ty.{Ty, Name, Fields, Records, scalar, array, rec as record_type, Shape, one, many, all, Shapes, no_shapes, shape, shapes_of, shape_in, table_of, shape_of_fields}
+use Rattle.tower_types.specs.Ty.{Ty, Name, Fields, Records, scalar, array, rec as record_type, Shape, one, many, all, shapes_of, shape_in, table_of, shape_of_fields}
 use Rattle.tower_types.specs.Value.{fits_scalar}
-use Rattle.tower_types.specs.Arithmetic.{applies, applies_one, binary_scalar, is_number, truth as truth_number}
+use Rattle.tower_types.specs.Arithmetic.{binary_scalar, truth as truth_number}
 use Rattle.tower_types.proofs.Shapes.{shape_of-rec}
 use Rattle.tower_syntax.specs.declared.named.Target.{Target}
 use Rattle.tower_syntax.specs.declared.named.Target.TheVariants as target
-use Rattle.tower_syntax.specs.declared.body.Root.TheVariants as root_of
 use Rattle.tower_syntax.specs.RawTree.{Link, RawType, RawPlace, root, get, index, RawExpr, truth, read, lit, un, bin, choose, cast}
 use Rattle.tower_syntax.specs.View.{Step, steps_of}
 use Rattle.tower_syntax.specs.Tree.{Expr, Steps}
 use Rattle.tower_syntax.specs.Tree as tree
 use Rattle.tower_syntax.specs.Weights.{Scope, shape_at, root_shape, nth_shape, field_shapes}
-use Rattle.tower_syntax.specs.Typed.{IsProperScalar, count, Use, out_of_scope, writable, Names, IsInScope, HasRoot, IsWritable, HasScalar, HasShape, Leads, Sends}
+use Rattle.tower_syntax.specs.Typed.{IsProperScalar, count, out_of_scope, writable, Names, IsInScope, HasRoot, HasScalar, HasShape, Leads, Sends}
 use Rattle.arch_types.specs.Typing.{Env, Path, with_step, place_from, root_at, type_of, if_found, one_later, field_in, field_of, BecomesPlace, Becomes}
 use Rattle.arch_types.specs.Body.{message_of}
+use Rattle.arch_types.specs.Scalars.{IsProperExpr, IsProperPlace, AreProperSteps}
 use Rattle.arch_types.specs.Walk.{scalar_in}
 use Rattle.arch_types.specs.Numbered.{Counts, IsSeen, SeesPlace, Sees}
 use Rattle.arch_types.proofs.SoundTypes.{Declared, AreDeclared, AreFormed, range_proper, declared, declared_more, element_declared, ordered, shaped}
@@ -175,10 +174,12 @@ module _ (σ : Setting) (formed : AreFormed σ.records) (Γ : Env) (c : Counts) 
     pub rooted : HasRoot (scope_in σ) c.names q.root
     pub leads : (rest : Steps) (s : Shape) → Leads (scope_in σ) c.names (shaped σ.records t) rest s → Leads (scope_in σ) c.names (root_shape (scope_in σ) q.root) (ending q.steps rest) s
     pub declared : Declared (length σ.records) t
+    pub proper : (rest : Steps) → AreProperSteps rest → AreProperSteps (ending q.steps rest)
 
   pub record IsTypedExpr (t : Ty) (x : Expr) : Type 0 where
     pub sends : Sends (scope_in σ) c.names x (shaped σ.records t)
     pub declared : Declared (length σ.records) t
+    pub proper : IsProperExpr x
 
   abbrev Scalars : Expr → Scalar → Type 0
   Scalars x s = HasScalar (scope_in σ) c.names x s
@@ -187,10 +188,10 @@ module _ (σ : Setting) (formed : AreFormed σ.records) (Γ : Env) (c : Counts) 
   is_scalar s x h = scalar_sent (scope_in σ) c.names x s h.sends
 
   -- an expression of a scalar type, where its type and tree are known by equations
-  by_scalar : (t : Ty) (x : Expr) (s : Scalar) (y : Expr) → t ≡ scalar s → x ≡ y → IsProperScalar s → Scalars y s → IsTypedExpr t x
-  by_scalar t x s y et ex p h =
+  by_scalar : (t : Ty) (x : Expr) (s : Scalar) (y : Expr) → t ≡ scalar s → x ≡ y → IsProperScalar s → IsProperExpr y → Scalars y s → IsTypedExpr t x
+  by_scalar t x s y et ex p made h =
       subst (λ u. IsTypedExpr u x) (sym et) (subst (IsTypedExpr (scalar s)) (sym ex)
-      (record { sends = sends_scalar (scope_in σ) c.names y s h; declared = declared_scalar all_records s p }))
+      (record { sends = sends_scalar (scope_in σ) c.names y s h; declared = declared_scalar all_records s p; proper = made }))
 
   -- a name
   named : (x : Target) → IsSeen c x → HasRoot (scope_in σ) c.names (root_at x) × (root_shape (scope_in σ) (root_at x) ≡ shaped σ.records (type_in σ x))
@@ -215,6 +216,7 @@ module _ (σ : Setting) (formed : AreFormed σ.records) (Γ : Env) (c : Counts) 
         rooted = n.0;
         leads = λ rest s h. subst (λ u. Leads (scope_in σ) c.names u rest s) (sym same) h;
         declared = k.1;
+        proper = λ rest p. p;
       })
 
   abbrev fields_at : ℕ → Fields
@@ -229,12 +231,13 @@ module _ (σ : Setting) (formed : AreFormed σ.records) (Γ : Env) (c : Counts) 
       let declared_fields = formed.declared r (fields_at r) (slice_get-get_or σ.records r [] lt) in
       let f = has_field σ r (fields_at r) name k t declared_fields (subst (λ rs. field_of rs r name ≡ Some (k, t)) K.same_records found) in
       let step : (rest : Steps) (s : Shape) → Leads (scope_in σ) c.names (shaped σ.records t) rest s → Leads (scope_in σ) c.names (shaped σ.records (record_type r)) (tree.field k rest) s =
-          λ rest s l. subst (λ u. Leads (scope_in σ) c.names u (tree.field k rest) s) (sym (record_shape r lt))
-          (f.there, subst (λ u. Leads (scope_in σ) c.names u rest s) (sym f.is) l) in
+      λ rest s l. subst (λ u. Leads (scope_in σ) c.names u (tree.field k rest) s) (sym (record_shape r lt))
+      (f.there, subst (λ u. Leads (scope_in σ) c.names u rest s) (sym f.is) l) in
       subst (IsTypedPlace t) (sym e) (record {
         rooted = h.rooted;
         leads = λ rest s l. subst (λ st. Leads (scope_in σ) c.names (root_shape (scope_in σ) q.root) st s) (sym (ending-more q.steps (tree.field k) rest)) (h.leads (tree.field k rest) s (step rest s l));
         declared = declared_more r all_records t (omega arith) f.declared;
+        proper = λ rest p. subst AreProperSteps (sym (ending-more q.steps (tree.field k) rest)) (h.proper (tree.field k rest) p);
       })
 
   at_element : (n : ℕ) (t : Ty) (i : Expr) (q p : Path) → IsTypedPlace (array n t) q → IsTypedExpr (scalar (is.Ix n)) i → p ≡ with_step q (tree.at i) → IsTypedPlace t p
@@ -243,14 +246,18 @@ module _ (σ : Setting) (formed : AreFormed σ.records) (Γ : Env) (c : Counts) 
         rooted = h.rooted;
         leads = λ rest s l. subst (λ st. Leads (scope_in σ) c.names (root_shape (scope_in σ) q.root) st s) (sym (ending-more q.steps (tree.at i) rest)) (h.leads (tree.at i rest) s (is_scalar (is.Ix n) i j, l));
         declared = element_declared all_records n t h.declared;
+        proper = λ rest p. subst AreProperSteps (sym (ending-more q.steps (tree.at i) rest)) (h.proper (tree.at i rest) (j.proper, p));
       })
 
   pub whole : (t : Ty) (q : Path) → IsTypedPlace t q → HasShape (scope_in σ) c.names (place_from q) (shaped σ.records t)
   whole t q h =
       (h.rooted, subst (λ st. Leads (scope_in σ) c.names (root_shape (scope_in σ) q.root) st (shaped σ.records t)) (sym (ends q.steps)) (h.leads tree.no_steps (shaped σ.records t) refl))
 
+  pub whole_proper : (t : Ty) (q : Path) → IsTypedPlace t q → IsProperPlace (place_from q)
+  whole_proper t q h = subst AreProperSteps (sym (ends q.steps)) (h.proper tree.no_steps tt)
+
   by_place : (t : Ty) (x : Expr) (q : Path) → x ≡ tree.read (place_from q) → IsTypedPlace t q → IsTypedExpr t x
-  by_place t x q e h = subst (IsTypedExpr t) (sym e) (record { sends = whole t q h; declared = h.declared })
+  by_place t x q e h = subst (IsTypedExpr t) (sym e) (record { sends = whole t q h; declared = h.declared; proper = whole_proper t q h })
 
   cast_proper : (u : RawType Link) (s : Scalar) → Declared all_records (type_of u) → type_of u ≡ scalar s → IsProperScalar s
   cast_proper u s d e = (subst (Declared all_records) e d).written
@@ -262,28 +269,30 @@ module _ (σ : Setting) (formed : AreFormed σ.records) (Γ : Env) (c : Counts) 
     place_typed (index at p e) t q s (n, b, i, hb, hi, eq) = at_element n t i b q (place_typed p (array n t) b s.0 hb) (expr_typed e (scalar (is.Ix n)) i s.1 hi) eq
 
     pub expr_typed : (e : RawExpr Link) (t : Ty) (x : Expr) → Sees c e → Becomes Γ e t x → IsTypedExpr t x
-    expr_typed (truth at b) t x s (et, ex) = by_scalar t x is.Bool (tree.lit is.Bool (truth_number b)) et ex tt (refl, truth_fits b)
+    expr_typed (truth at b) t x s (et, ex) = by_scalar t x is.Bool (tree.lit is.Bool (truth_number b)) et ex tt tt (refl, truth_fits b)
     expr_typed (read p) t x s (q, h, ex) = by_place t x q ex (place_typed p t q s h)
-    expr_typed (lit at k n) t x s (fits, et, ex) = by_scalar t x k (tree.lit k n) et ex (range_proper k s) (refl, fits)
+    expr_typed (lit at k n) t x s (fits, et, ex) = by_scalar t x k (tree.lit k n) et ex (range_proper k s) (range_proper k s) (refl, fits)
     expr_typed (un at o a) t x s (k, y, ha, app, et, ex) =
         let ta = expr_typed a (scalar k) y s ha in
-        by_scalar t x k (tree.un o k y) et ex ta.declared.written (app, refl, is_scalar k y ta)
+        by_scalar t x k (tree.un o k y) et ex ta.declared.written (ta.declared.written, ta.proper) (app, refl, is_scalar k y ta)
     expr_typed (bin at o a b) t x s (k, y, z, ha, hb, app, et, ex) =
         let ta = expr_typed a (scalar k) y s.0 ha in
         let tb = expr_typed b (scalar k) z s.1 hb in
-        by_scalar t x (binary_scalar o k) (tree.bin o k y z) et ex (applied_proper o k ta.declared.written) (app, refl, is_scalar k y ta, is_scalar k z tb)
+        by_scalar t x (binary_scalar o k) (tree.bin o k y z) et ex (applied_proper o k ta.declared.written) (ta.declared.written, ta.proper, tb.proper) (app, refl, is_scalar k y ta, is_scalar k z tb)
     expr_typed (choose at d a b) t x s (k, w, y, z, hd, ha, hb, et, ex) =
+        let td = expr_typed d (scalar is.Bool) w s.0 hd in
         let ta = expr_typed a (scalar k) y s.1 ha in
-        by_scalar t x k (tree.choose w y z) et ex ta.declared.written
-        (is_scalar is.Bool w (expr_typed d (scalar is.Bool) w s.0 hd), is_scalar k y ta, is_scalar k z (expr_typed b (scalar k) z s.2 hb))
+        let tb = expr_typed b (scalar k) z s.2 hb in
+        by_scalar t x k (tree.choose w y z) et ex ta.declared.written (td.proper, ta.proper, tb.proper) (is_scalar is.Bool w td, is_scalar k y ta, is_scalar k z tb)
     expr_typed (cast at u a) t x s (k, r, y, eu, number, ha, was, et, ex) =
         let d = subst (λ n. Declared n (type_of u)) K.all_records (declared c.records u s.0) in
         let p = cast_proper u k d eu in
-        by_scalar t x k (tree.cast k y) et ex p (number, p, refl, (r, was, is_scalar r y (expr_typed a (scalar r) y s.1 ha)))
+        let ta = expr_typed a (scalar r) y s.1 ha in
+        by_scalar t x k (tree.cast k y) et ex p (p, ta.proper) (number, p, refl, (r, was, is_scalar r y ta))
 
   -- ---- one type at most
 
-  scalar_same : (s k : Scalar) → scalar s ≡ scalar k → s ≡ k
+  pub scalar_same : (s k : Scalar) → scalar s ≡ scalar k → s ≡ k
   scalar_same s k e = ap scalar_in e
 
   abbrev number_of : Ty → ℕ
@@ -294,16 +303,17 @@ module _ (σ : Setting) (formed : AreFormed σ.records) (Γ : Env) (c : Counts) 
   element_of (array n t) = t
   element_of t = t
 
-  same_field : (r q k j : ℕ) (t u : Ty) (name : Name) → record_type r ≡ record_type q → field_of Γ.records r name ≡ Some (k, t) → field_of Γ.records q name ≡ Some (j, u) → t ≡ u
+  pub same_field : (r q k j : ℕ) (t u : Ty) (name : Name) → record_type r ≡ record_type q → field_of Γ.records r name ≡ Some (k, t) → field_of Γ.records q name ≡ Some (j, u) → (k ≡ j) × (t ≡ u)
   same_field r q k j t u name e f g =
       let same : r ≡ q = ap number_of e in
-      ap (λ p. p.1) (same_Some (k, t) (j, u) (sym f ∙ ap (λ n. field_of Γ.records n name) same ∙ g))
+      let pair = same_Some (k, t) (j, u) (sym f ∙ ap (λ n. field_of Γ.records n name) same ∙ g) in
+      (ap (λ p. p.0) pair, ap (λ p. p.1) pair)
 
   mutual
-    place_once : (p : RawPlace Link) (t u : Ty) (x y : Path) → SeesPlace c p → BecomesPlace Γ p t x → BecomesPlace Γ p u y → t ≡ u
+    pub place_once : (p : RawPlace Link) (t u : Ty) (x y : Path) → SeesPlace c p → BecomesPlace Γ p t x → BecomesPlace Γ p u y → t ≡ u
     place_once (root l) t u x y s h k = (K.known l.target t s h.0).0 ∙ sym (K.known l.target u s k.0).0
     place_once (get at p name) t u x y s (r, k, b, hb, found, e) (q, j, d, hd, found_too, f) =
-        same_field r q k j t u name.name (place_once p (record_type r) (record_type q) b d s hb hd) found found_too
+        (same_field r q k j t u name.name (place_once p (record_type r) (record_type q) b d s hb hd) found found_too).1
     place_once (index at p e) t u x y s (n, b, i, hb, hi, eq) (m, d, j, hd, hj, f) = ap element_of (place_once p (array n t) (array m u) b d s.0 hb hd)
 
     pub expr_once : (e : RawExpr Link) (t u : Ty) (x y : Expr) → Sees c e → Becomes Γ e t x → Becomes Γ e u y → t ≡ u

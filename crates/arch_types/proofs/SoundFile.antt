@@ -1,15 +1,14 @@
 -- What a file declares: its types, its numbers, and how many of each kind there are.
 use Rattle.std.proofs.Common.{◌≡◌, ℕ, zero, suc, ◌+◌, ◌^◌, ◌<◌, ◌≤◌, List, [], ◌∷◌, ◌++◌, length, map, slice_get, Some, All, is_some, refl, ap, sym, subst, ◌∙◌, arith}
 use Rattle.std.proofs.lemmas.List.{length-append, length-map}
-use Rattle.std.proofs.lemmas.List.Elements.{All-nil, All-cons, All-head, All-tail, All-append, All-weaker}
+use Rattle.std.proofs.lemmas.List.Elements.{All-nil, All-cons, All-head, All-tail, All-append}
 use Rattle.std.proofs.lemmas.Option.{same_Some, none-some}
 use Rattle.tower_types.specs.declared.scalar.Scalar.TheVariants.{I64}
-use Rattle.tower_types.specs.Ty.{Ty, Fields, scalar}
+use Rattle.tower_types.specs.Ty.{Fields, scalar}
 use Rattle.tower_syntax.specs.declared.named.Target.{Target}
 use Rattle.tower_syntax.specs.declared.named.Target.TheVariants as target
 use Rattle.tower_syntax.specs.declared.arch.SourceKind.{SourceKind}
 use Rattle.tower_syntax.specs.declared.arch.SourceKind.TheVariants as kind
-use Rattle.tower_syntax.specs.declared.arch.Listener.TheVariants as to
 use Rattle.tower_syntax.specs.declared.arch.Listener.{Listener}
 use Rattle.tower_syntax.specs.RawTree.{Link, RawField, RawPart, state, handler, RawItem, fields, init, period, signal, channel, output, monitor}
 use Rattle.tower_syntax.specs.Arch.{Arch, Source, Channel, Output, Monitor}
@@ -304,7 +303,7 @@ handlers_listed_from o h m (output at i u ∷ items) = handlers_listed_from (o +
 handlers_listed_from o h m (monitor at i ps ∷ items) =
     let rest = length (handlers_from (m + 1) items) in
     let e : handlers_in ps + rest ≡ length (each (written_of m) ps ++ handlers_from (m + 1) items) =
-        omega (arith, count_in m ps, length-append (each (written_of m) ps) (handlers_from (m + 1) items)) in
+    omega (arith, count_in m ps, length-append (each (written_of m) ps) (handlers_from (m + 1) items)) in
     part_handlers h ps (listeners o (h + handlers_in ps) items)
     ∙ ap (λ l. counting h (handlers_in ps) ++ l) (handlers_listed_from o (h + handlers_in ps) (m + 1) items)
     ∙ counting_more h (handlers_in ps) rest ∙ ap (counting h) e

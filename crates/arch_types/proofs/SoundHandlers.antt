@@ -1,31 +1,29 @@
 -- A handler of the checked tree is well numbered and typed.
-use Rattle.std.proofs.Common.{◌≡◌, ℕ, zero, suc, ◌+◌, ◌^◌, ◌<◌, ◌≤◌, List, [], ◌∷◌, ◌++◌, length, map, get_or, slice_get, slice_index_or, Option, Some, None, All, refl, ap, sym, subst, ◌∙◌, arith, append-nil}
+use Rattle.std.proofs.Common.{◌≡◌, ℕ, zero, suc, ◌+◌, ◌^◌, ◌<◌, ◌≤◌, List, [], ◌∷◌, length, map, slice_get, slice_index_or, Some, All, refl, ap, sym, subst, ◌∙◌, arith, append-nil}
 use Rattle.std.specs.Option.{option_map}
 use Rattle.std.proofs.lemmas.List.{length-map}
 use Rattle.std.proofs.lemmas.List.Elements.{All-nil, All-cons, All-head, All-tail, All-weaker}
-use Rattle.std.proofs.lemmas.Option.{same_Some, none-some}
+use Rattle.std.proofs.lemmas.Option.{same_Some}
 use Rattle.tower_types.specs.declared.scalar.Scalar.TheVariants as is
-use Rattle.tower_types.specs.Ty.{Ty, Name, Fields, scalar, Shape, shape_in, table_of}
+use Rattle.tower_types.specs.Ty.{Ty, Name, Fields, scalar, shape_in, table_of}
 use Rattle.tower_syntax.specs.declared.named.Target.{Target}
 use Rattle.tower_syntax.specs.declared.named.Target.TheVariants as target
 use Rattle.tower_syntax.specs.declared.arch.On.{On}
-use Rattle.tower_syntax.specs.declared.arch.On.TheVariants as on
 use Rattle.tower_syntax.specs.RawTree.{Id, Link, Raw, RawStmts, RawHpart, emitter, callback}
 use Rattle.tower_syntax.specs.Arch.{Arch, Emitter, Body, Handler}
-use Rattle.tower_syntax.specs.WellNumbered.{IsCounted, IsNumberedOn, IsNumberedBody, IsNumberedHandler, counts_of}
+use Rattle.tower_syntax.specs.WellNumbered.{IsNumberedOn, IsNumberedBody, IsNumberedHandler, counts_of}
 use Rattle.tower_syntax.specs.Weights.{states_of, shape_at, channel_message, message_on, scope_of}
 use Rattle.tower_syntax.specs.Typed.{no_names, AreTypedStmts, AreProperFields, IsProperType, IsTypedHandler}
-use Rattle.arch_types.specs.Typing.{Env}
-use Rattle.arch_types.specs.Body.{BecomesAll}
-use Rattle.arch_types.specs.Outline.{each, outline, with_handlers, Written, handlers_of, on_of, emitter_of, callback_of, channel_number}
+use Rattle.arch_types.specs.Outline.{each, outline, with_handlers, Written, on_of, emitter_of, callback_of}
 use Rattle.arch_types.specs.File.{entry, IsBody, AreBodies, AreHandlers}
 use Rattle.arch_types.specs.File as file
 use Rattle.arch_types.specs.Numbered.{Counts, IsSeen, SeesAll, nested_all, bound_by_all, IsChannel, IsHeard, IsPartOf, IsNumbered}
 use Rattle.arch_types.specs.Numbered as numbered
+use Rattle.arch_types.specs.Scalars.{AreProperStmts}
 use Rattle.arch_types.proofs.SoundTypes.{Declared, AreDeclared, AreFormed, numbered_fields, shaped, proper}
 use Rattle.arch_types.proofs.SoundFile.{IsShortRecord, IsSource, records_are, sources_are, channels_are, monitors_are, channel_below}
 use Rattle.arch_types.proofs.SoundExprs.{Setting, field_type, type_in, Knows}
-use Rattle.arch_types.proofs.SoundStmts.{AreTyped, Sits, all_names, all_typed}
+use Rattle.arch_types.proofs.SoundStmts.{Sits, all_names, all_typed}
 use Rattle.arch_types.proofs.SoundHeights.{all_high, all_numbered}
 
 -- ---- lists
@@ -121,7 +119,7 @@ module _ (raw : Raw Link) (all_handlers : List Handler) (n : IsNumbered raw) whe
     abbrev pub as_handler : Handler
     as_handler = record { name = name; monitor = w.monitor; on = on_of w.on.target; emitters = each emitter_of w.parts; callbacks = bodies }
 
-    abbrev counts : Counts
+    abbrev pub counts : Counts
     counts = record {
       records = length (outlined).records;
       states = length (states_of outlined w.monitor);
@@ -130,7 +128,7 @@ module _ (raw : Raw Link) (all_handlers : List Handler) (n : IsNumbered raw) whe
       bound = 0;
     }
 
-    abbrev setting : Body → Setting
+    abbrev pub setting : Body → Setting
     setting b = record {
       records = (outlined).records;
       message = message_on arch (on_of w.on.target);
@@ -153,7 +151,7 @@ module _ (raw : Raw Link) (all_handlers : List Handler) (n : IsNumbered raw) whe
     name_known b (target.Channel k) t seen e = absurd seen
     name_known b (target.Emitter k) t seen e = absurd seen
 
-    knows : (b : Body) → Knows (setting b) (entry outlined w) counts
+    pub knows : (b : Body) → Knows (setting b) (entry outlined w) counts
     knows b = record {
       same_records = refl;
       all_records = refl;
@@ -168,7 +166,7 @@ module _ (raw : Raw Link) (all_handlers : List Handler) (n : IsNumbered raw) whe
       bound = refl;
     }
 
-    record IsFine (c : Id × RawStmts Link) : Type 0 where
+    pub record IsFine (c : Id × RawStmts Link) : Type 0 where
       pub sees : SeesAll counts c.1
       pub low : nested_all c.1 ≤ 256
       pub few : bound_by_all c.1 ≤ 2 ^ 32
@@ -177,6 +175,7 @@ module _ (raw : Raw Link) (all_handlers : List Handler) (n : IsNumbered raw) whe
       pub numbered : IsNumberedBody arch as_handler b
       pub names : AreProperFields arch b.binders
       pub typed : AreTypedStmts (scope_of arch as_handler b) no_names b.stmts
+      pub proper : AreProperStmts b.stmts
 
     good : (c : Id × RawStmts Link) (b : Body) → IsFine c → IsBody (entry outlined w) c b → IsGood b
     good c b f h =
@@ -193,6 +192,7 @@ module _ (raw : Raw Link) (all_handlers : List Handler) (n : IsNumbered raw) whe
           };
           names = All-weaker (λ g. Declared known g.1) (λ g. IsProperType arch g.1) (λ g. proper (outlined).records formed g.1) b.binders t.declared;
           typed = t.typed;
+          proper = t.proper;
         }
 
     all_good : (cs : List (Id × RawStmts Link)) (bs : List Body) → All IsFine cs → AreBodies (entry outlined w) cs bs → All IsGood bs
@@ -201,32 +201,36 @@ module _ (raw : Raw Link) (all_handlers : List Handler) (n : IsNumbered raw) whe
     all_good (c ∷ cs) [] f h = absurd h
     all_good (c ∷ cs) (b ∷ bs) f h = All-cons IsGood b bs (good c b (All-head IsFine c cs f) h.0) (all_good cs bs (All-tail IsFine c cs f) h.1)
 
-    all_fine : (hs : List (RawHpart Link)) → All (IsPartOf outlined counts) hs → All IsFine (each callback_of hs)
+    pub all_fine : (hs : List (RawHpart Link)) → All (IsPartOf outlined counts) hs → All IsFine (each callback_of hs)
     all_fine [] h = All-nil IsFine
     all_fine (emitter at i u m ∷ hs) h = all_fine hs (All-tail (IsPartOf outlined counts) (emitter at i u m) hs h)
     all_fine (callback at i ss ∷ hs) h =
         let p = All-head (IsPartOf outlined counts) (callback at i ss) hs h in
         All-cons IsFine (i, ss) (each callback_of hs) (record { sees = p.0; low = p.1; few = p.2 }) (all_fine hs (All-tail (IsPartOf outlined counts) (callback at i ss) hs h))
 
-    pub handler_is : AreBodies (entry (outline raw) w) (each callback_of w.parts) bodies → IsNumberedHandler (with_handlers (outline raw) all_handlers) as_handler × IsTypedHandler (with_handlers (outline raw) all_handlers) as_handler
+    pub handler_is : AreBodies (entry (outline raw) w) (each callback_of w.parts) bodies → IsNumberedHandler (with_handlers (outline raw) all_handlers) as_handler × IsTypedHandler (with_handlers (outline raw) all_handlers) as_handler × All (λ b. AreProperStmts b.stmts) bodies
     handler_is h =
-        let g = all_good (each callback_of w.parts) bodies (all_fine w.parts H.parts) h in
-        (record {
-          monitor = in_monitor;
-          on = (hears w.on.target H.on).there;
-          few = H.few;
-          emitters = on_channels;
-          callbacks = All-weaker IsGood (IsNumberedBody arch as_handler) (λ b x. x.numbered) bodies g;
-        }, record {
-          names = All-weaker IsGood (λ b. AreProperFields arch b.binders) (λ b x. x.names) bodies g;
-          callbacks = All-weaker IsGood (λ b. AreTypedStmts (scope_of arch as_handler b) no_names b.stmts) (λ b x. x.typed) bodies g;
-        })
+        let g = all_good (each callback_of w.parts) bodies (all_fine w.parts H.parts) h in (
+          record {
+            monitor = in_monitor;
+            on = (hears w.on.target H.on).there;
+            few = H.few;
+            emitters = on_channels;
+            callbacks = All-weaker IsGood (IsNumberedBody arch as_handler) (λ b x. x.numbered) bodies g;
+          },
+          record {
+            names = All-weaker IsGood (λ b. AreProperFields arch b.binders) (λ b x. x.names) bodies g;
+            callbacks = All-weaker IsGood (λ b. AreTypedStmts (scope_of arch as_handler b) no_names b.stmts) (λ b x. x.typed) bodies g;
+          },
+          All-weaker IsGood (λ b. AreProperStmts b.stmts) (λ b x. x.proper) bodies g,
+        )
 
   -- ---- all handlers
 
   pub record IsRight (h : Handler) : Type 0 where
     pub numbered : IsNumberedHandler (with_handlers (outline raw) all_handlers) h
     pub typed : IsTypedHandler (with_handlers (outline raw) all_handlers) h
+    pub proper : All (λ b. AreProperStmts b.stmts) h.callbacks
 
   abbrev with_parts : Name → List Body → ℕ → On → List Emitter → Handler
   with_parts name bodies m o es = record { name = name; monitor = m; on = o; emitters = es; callbacks = bodies }
@@ -234,7 +238,7 @@ module _ (raw : Raw Link) (all_handlers : List Handler) (n : IsNumbered raw) whe
   right : (w : Written) (h : Handler) → numbered.IsHandler outlined w → w.monitor < length (outlined).monitors → file.IsHandler outlined w h → IsRight h
   right w h H lt f =
       let base = handler_is w H lt h.name h.callbacks f.callbacks in
-      let made : IsRight (with_parts h.name h.callbacks w.monitor (on_of w.on.target) (each emitter_of w.parts)) = record { numbered = base.0; typed = base.1 } in
+      let made : IsRight (with_parts h.name h.callbacks w.monitor (on_of w.on.target) (each emitter_of w.parts)) = record { numbered = base.0; typed = base.1; proper = base.2 } in
       subst (λ es. IsRight (with_parts h.name h.callbacks h.monitor h.on es)) (sym f.emitters)
       (subst (λ o. IsRight (with_parts h.name h.callbacks h.monitor o (each emitter_of w.parts))) (sym f.on)
       (subst (λ m. IsRight (with_parts h.name h.callbacks m (on_of w.on.target) (each emitter_of w.parts))) (sym f.monitor) made))

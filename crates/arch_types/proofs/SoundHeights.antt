@@ -1,5 +1,5 @@
 -- What a place, expression or statement becomes is as high as it is, and statements that are typed name what exists.
-use Rattle.std.proofs.Common.{◌≡◌, ℕ, zero, suc, ◌+◌, ◌<◌, ◌≤◌, max, List, [], ◌∷◌, ◌++◌, length, refl, ap, sym, subst, ◌∙◌, arith}
+use Rattle.std.proofs.Common.{◌≡◌, ℕ, ◌+◌, max, length, refl, ap, ◌∙◌, arith}
 use Rattle.tower_types.specs.declared.scalar.Scalar.{Scalar}
 use Rattle.tower_types.specs.declared.scalar.Scalar.TheVariants as is
 use Rattle.tower_types.specs.Ty.{Ty, Fields, scalar, array, rec as record_type, Shape, one, many, all}
@@ -24,18 +24,18 @@ same_max : (a b x y : ℕ) → a ≡ x → b ≡ y → max a b ≡ max x y
 same_max a b x y e f = ap (λ n. max n b) e ∙ ap (max x) f
 
 module _ (Γ : Env) where
-  grown : (p : RawPlace Link) (q : Path) (b : Path) (n m : ℕ) (step : Steps → Steps) → q ≡ with_step b step → ((rest : Steps) → steps_height 1 (ending b.steps rest) ≡ steps_height n rest) → ((rest : Steps) → steps_height n (step rest) ≡ steps_height m rest)
+  grown : (q b : Path) (n m : ℕ) (step : Steps → Steps) → q ≡ with_step b step → ((rest : Steps) → steps_height 1 (ending b.steps rest) ≡ steps_height n rest) → ((rest : Steps) → steps_height n (step rest) ≡ steps_height m rest)
       → (rest : Steps) → steps_height 1 (ending q.steps rest) ≡ steps_height m rest
-  grown p q b n m step e h k rest = ap (λ x. steps_height 1 (ending x.steps rest)) e ∙ ap (steps_height 1) (ending-more b.steps step rest) ∙ h (step rest) ∙ k rest
+  grown q b n m step e h k rest = ap (λ x. steps_height 1 (ending x.steps rest)) e ∙ ap (steps_height 1) (ending-more b.steps step rest) ∙ h (step rest) ∙ k rest
 
   mutual
     pub place_high : (p : RawPlace Link) (t : Ty) (q : Path) → BecomesPlace Γ p t q → (rest : Steps) → steps_height 1 (ending q.steps rest) ≡ steps_height (body.place_height p) rest
     place_high (root u) t q h rest = ap (λ x. steps_height 1 (ending x.steps rest)) h.1
     place_high (get at p name) t q (r, k, b, h, found, e) rest =
-        grown p q b (body.place_height p) (body.place_height p + 1) (tree.field k) e (place_high p (record_type r) b h) (λ more. refl) rest
+        grown q b (body.place_height p) (body.place_height p + 1) (tree.field k) e (place_high p (record_type r) b h) (λ more. refl) rest
     place_high (index at p i) t q (n, b, x, h, g, e) rest =
         let same : max (body.place_height p) (height x) + 1 ≡ max (body.place_height p) (body.height i) + 1 = ap (λ k. max (body.place_height p) k + 1) (expr_high i (scalar (is.Ix n)) x g) in
-        grown p q b (body.place_height p) (max (body.place_height p) (body.height i) + 1) (tree.at x) e (place_high p (array n t) b h) (λ more. ap (λ k. steps_height k more) same) rest
+        grown q b (body.place_height p) (max (body.place_height p) (body.height i) + 1) (tree.at x) e (place_high p (array n t) b h) (λ more. ap (λ k. steps_height k more) same) rest
 
     pub expr_high : (e : RawExpr Link) (t : Ty) (x : Expr) → Becomes Γ e t x → height x ≡ body.height e
     expr_high (truth at b) t x h = ap height h.1

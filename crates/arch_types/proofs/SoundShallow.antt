@@ -1,11 +1,11 @@
 -- Where nothing offends, no expression or place is high.
-use Rattle.std.proofs.Common.{◌≡◌, ◌⊎◌, ℕ, zero, suc, ◌+◌, ◌<◌, ◌≤◌, List, [], ◌∷◌, length, get_or, slice_index_or, inl, inr, All, Contains, refl, ap, sym, subst, ◌∙◌, arith, lt_of_not-le}
+use Rattle.std.proofs.Common.{◌≡◌, ℕ, zero, suc, ◌<◌, ◌≤◌, List, [], ◌∷◌, length, get_or, inl, inr, All, Contains, refl, sym, subst, arith, lt_of_not-le}
 use Rattle.std.proofs.lemmas.List.Elements.{All-nil, All-cons, All-head, All-tail}
 use Rattle.tower_types.specs.declared.scalar.Scalar.TheVariants as is
 use Rattle.tower_types.specs.Ty.{Ty, Fields, scalar}
 use Rattle.tower_syntax.specs.RawTree.{Id, Link, Raw, RawPlace, RawExpr, RawStmt, bind, local, set, copy, branch, loop, emit, RawStmts, no_stmts, stmt}
-use Rattle.tower_syntax.specs.Tree.{Expr, Place, Stmt, Stmts}
-use Rattle.tower_syntax.specs.Arch.{Arch, Body, Handler}
+use Rattle.tower_syntax.specs.Tree.{Expr, Stmt, Stmts}
+use Rattle.tower_syntax.specs.Arch.{Body, Handler}
 use Rattle.tower_syntax.specs.WellNumbered.{height, place_height}
 use Rattle.arch_types.specs.declared.fault.TypeFault.{TypeFault}
 use Rattle.arch_types.specs.declared.fault.TypeFault.TheVariants as fault
@@ -14,9 +14,8 @@ use Rattle.arch_types.specs.Typing.{Env, Path, place_from, Becomes, BecomesPlace
 use Rattle.arch_types.specs.Body.{emitter_number, message_of, expr_child, place_child, told, IsDeep, Breaks, BreaksAll, Deeps, DeepsAll, Offends, BecomesStmt, BecomesAll}
 use Rattle.arch_types.specs.Body as body
 use Rattle.arch_types.specs.Outline.{each, outline, Written, handlers_of, callback_of}
-use Rattle.arch_types.specs.File.{entry, AreBodies, AreHandlers, IsChecked, Offence}
-use Rattle.arch_types.specs.File as file
-use Rattle.arch_types.specs.Shallow.{greatest_height, IsLow, AreLow, IsShallow}
+use Rattle.arch_types.specs.File.{entry, AreBodies, AreHandlers, Offence}
+use Rattle.arch_types.specs.Shallow.{greatest_height, IsLow, AreLow}
 use Rattle.arch_types.specs.Laws.{ShallowLaw}
 use Rattle.arch_types.proofs.SoundHeights.{expr_high, whole_high}
 
@@ -42,18 +41,21 @@ mutual
       subst IsLow (sym made) (low_expr Γ e (scalar k) x (Breaks Γ (bind at i e)) h d (λ f g. w f (inl (inl g))) w)
   stmt_low Γ (local at i u) xs t (names, made) w d = subst IsLow (sym made) tt
   stmt_low Γ (set at p e) xs t (k, q, x, h, writable, g, names, made) w d =
-      subst IsLow (sym made)
-      (low_place Γ p (scalar k) q (Breaks Γ (set at p e)) h (λ f i. d f (inl i)) (λ f i. w f (inl (inl i))) w,
-      low_expr Γ e (scalar k) x (Breaks Γ (set at p e)) g (λ f i. d f (inr i)) (λ f i. w f (inl (inr (inl i)))) w)
+      subst IsLow (sym made) (
+        low_place Γ p (scalar k) q (Breaks Γ (set at p e)) h (λ f i. d f (inl i)) (λ f i. w f (inl (inl i))) w,
+        low_expr Γ e (scalar k) x (Breaks Γ (set at p e)) g (λ f i. d f (inr i)) (λ f i. w f (inl (inr (inl i)))) w,
+      )
   stmt_low Γ (copy at p q) xs t (v, x, y, h, writable, g, names, made) w d =
-      subst IsLow (sym made)
-      (low_place Γ p v x (Breaks Γ (copy at p q)) h (λ f i. d f (inl i)) (λ f i. w f (inl (inl i))) w,
-      low_place Γ q v y (Breaks Γ (copy at p q)) g (λ f i. d f (inr i)) (λ f i. w f (inl (inr (inl i)))) w)
+      subst IsLow (sym made) (
+        low_place Γ p v x (Breaks Γ (copy at p q)) h (λ f i. d f (inl i)) (λ f i. w f (inl (inl i))) w,
+        low_place Γ q v y (Breaks Γ (copy at p q)) g (λ f i. d f (inr i)) (λ f i. w f (inl (inr (inl i)))) w,
+      )
   stmt_low Γ (branch at e then_at a else_at b) xs t (x, ys, zs, l, r, hc, ha, hb, names, made) w d =
-      subst IsLow (sym made)
-      (low_expr Γ e (scalar is.Bool) x (Breaks Γ (branch at e then_at a else_at b)) hc (λ f i. d f (inl i)) (λ f i. w f (inl i)) w,
-      all_low Γ a ys l ha (λ f i. w f (inr (inl i))) (λ f i. d f (inr (inl i))),
-      all_low (body.after_all Γ a) b zs r hb (λ f i. w f (inr (inr (inl i)))) (λ f i. d f (inr (inr i))))
+      subst IsLow (sym made) (
+        low_expr Γ e (scalar is.Bool) x (Breaks Γ (branch at e then_at a else_at b)) hc (λ f i. d f (inl i)) (λ f i. w f (inl i)) w,
+        all_low Γ a ys l ha (λ f i. w f (inr (inl i))) (λ f i. d f (inr (inl i))),
+        all_low (body.after_all Γ a) b zs r hb (λ f i. w f (inr (inr (inl i)))) (λ f i. d f (inr (inr i))),
+      )
   stmt_low Γ (loop at i n ss) xs t (ys, l, h, names, made) w d = subst IsLow (sym made) (all_low (body.with_loop Γ n) ss ys l h w d)
   stmt_low Γ (emit at u e) xs t (x, h, names, made) w d =
       subst IsLow (sym made) (low_expr Γ e (message_of Γ (emitter_number u.target)) x (Breaks Γ (emit at u e)) h d (λ f g. w f (inl (inl g))) w)
@@ -86,7 +88,7 @@ module _ (raw : Raw Link) (clean : IsClean (Offence raw)) where
     bodies_low (d ∷ ds) [] there h = absurd h
     bodies_low (d ∷ ds) (b ∷ bs) there h =
         let offence : (f : TypeFault) → Offends (entry (outline raw) w) d.1 f → ⊥ =
-            λ f i. clean f (record { handler = w; in_file = in_file; callback = d; in_handler = All-head (Contains cs) d ds there; offends = i }) in
+        λ f i. clean f (record { handler = w; in_file = in_file; callback = d; in_handler = All-head (Contains cs) d ds there; offends = i }) in
         All-cons (λ x. AreLow x.stmts) b bs
         (all_low (entry (outline raw) w) d.1 b.binders b.stmts h.0.1 (λ f i. offence f (inl i)) (λ f i. offence f (inr i)))
         (bodies_low ds bs (All-tail (Contains cs) d ds there) h.1)

@@ -1,5 +1,5 @@
 -- What statements become is typed, over the list of all names of their callback.
-use Rattle.std.proofs.Common.{◌≡◌, ◌⊎◌, ℕ, zero, suc, ◌+◌, ◌<◌, ◌≤◌, List, [], ◌∷◌, ◌++◌, length, map, get_or, slice_index_or, Bool, true, false, cond, ◌==◌, inl, inr, All, refl, ap, sym, subst, ◌∙◌, arith, append_assoc, lt_of_not-le}
+use Rattle.std.proofs.Common.{◌≡◌, ◌⊎◌, ℕ, suc, ◌+◌, ◌<◌, ◌≤◌, [], ◌∷◌, ◌++◌, length, slice_index_or, Bool, true, false, cond, ◌==◌, inl, inr, refl, ap, sym, subst, ◌∙◌, arith, append_assoc, lt_of_not-le}
 use Rattle.std.proofs.lemmas.Bool.{false≢true}
 use Rattle.std.proofs.lemmas.Bool.Decides.{eqb_tells}
 use Rattle.std.proofs.lemmas.List.{length-map, length-append}
@@ -7,24 +7,24 @@ use Rattle.std.proofs.lemmas.List.Elements.{All-nil, All-cons, All-append}
 use Rattle.std.proofs.Math.Seq.{get_or-append_seam}
 use Rattle.tower_types.specs.declared.scalar.Scalar.{Scalar}
 use Rattle.tower_types.specs.declared.scalar.Scalar.TheVariants as is
-use Rattle.tower_types.specs.Ty.{Ty, Name, Fields, scalar, Shape, one, shape_in, table_of}
+use Rattle.tower_types.specs.Ty.{Ty, Name, Fields, scalar, one, shape_in, table_of}
 use Rattle.tower_syntax.specs.declared.named.Target.{Target}
 use Rattle.tower_syntax.specs.declared.named.Target.TheVariants as target
-use Rattle.tower_syntax.specs.declared.body.Root.{Root}
 use Rattle.tower_syntax.specs.RawTree.{Link, RawPlace, root, get, index, RawStmt, bind, local, set, copy, branch, loop, emit, RawStmts, no_stmts, stmt}
 use Rattle.tower_syntax.specs.Tree.{Expr, Steps, Stmt, Stmts}
 use Rattle.tower_syntax.specs.Tree as tree
 use Rattle.tower_syntax.specs.View.{steps_of}
 use Rattle.tower_syntax.specs.Weights.{shape_at}
-use Rattle.tower_syntax.specs.Typed.{Use, out_of_scope, read_only, writable, Names, with_name, IsInScope, IsWritable, IsFresh, HasScalar, Sends, names_after, IsTypedStmt, AreTypedStmts}
+use Rattle.tower_syntax.specs.Typed.{Use, out_of_scope, read_only, writable, with_name, IsInScope, IsWritable, IsFresh, HasScalar, Sends, names_after, IsTypedStmt, AreTypedStmts}
 use Rattle.arch_types.specs.Wanted.{a_scalar, fulfils}
-use Rattle.arch_types.specs.Typing.{Env, Path, place_from, root_at, type_of, BecomesPlace, Becomes, Has}
+use Rattle.arch_types.specs.Typing.{Env, Path, place_from, root_at, type_of, BecomesPlace, Has}
 use Rattle.arch_types.specs.Body.{base, emitter_number, message_of, BecomesStmt, BecomesAll}
 use Rattle.arch_types.specs.Body as body
+use Rattle.arch_types.specs.Scalars.{IsProperPlace, IsProperStmt, AreProperStmts}
 use Rattle.arch_types.specs.Numbered.{Counts, IsSeen, IsEmitter, past, naming, SeesPlace, SeesStmt, SeesAll, bound_by, bound_by_all}
 use Rattle.arch_types.specs.Numbered as numbered
 use Rattle.arch_types.proofs.SoundTypes.{Declared, declared, AreDeclared, AreFormed, shaped}
-use Rattle.arch_types.proofs.SoundExprs.{Setting, scope_in, field_type, type_in, Knows, shape_there, declared_scalar, scalar_sent, whole, place_typed, expr_typed, expr_once}
+use Rattle.arch_types.proofs.SoundExprs.{Setting, scope_in, field_type, type_in, Knows, shape_there, declared_scalar, scalar_sent, whole, whole_proper, place_typed, expr_typed, expr_once}
 
 -- ---- the names that there were before keep their types
 
@@ -100,7 +100,7 @@ module _ (Γ : Env) (new : Ty → Type 0) (w : Bool) where
   one_more = record { same_records = refl; same_emitters = refl; bound = refl; older = one_older; writes = one_writes }
 
 mutual
-  stmt_grows : (Γ : Env) (s : RawStmt Link) → Grows Γ (body.after Γ s) (bound_by s)
+  pub stmt_grows : (Γ : Env) (s : RawStmt Link) → Grows Γ (body.after Γ s) (bound_by s)
   stmt_grows Γ (bind at i e) = one_more Γ _ false
   stmt_grows Γ (local at i u) = one_more Γ _ true
   stmt_grows Γ (set at p e) = no_more Γ
@@ -114,7 +114,7 @@ mutual
       (one_more Γ _ false) (all_grow (body.with_loop Γ n) ss)
   stmt_grows Γ (emit at u e) = no_more Γ
 
-  all_grow : (Γ : Env) (ss : RawStmts Link) → Grows Γ (body.after_all Γ ss) (bound_by_all ss)
+  pub all_grow : (Γ : Env) (ss : RawStmts Link) → Grows Γ (body.after_all Γ ss) (bound_by_all ss)
   all_grow Γ no_stmts = no_more Γ
   all_grow Γ (stmt s ss) =
       both_grow Γ (body.after Γ s) (body.after_all (body.after Γ s) ss) (bound_by s) (bound_by_all ss) (bound_by s + bound_by_all ss) refl
@@ -123,7 +123,7 @@ mutual
 -- ---- so many names
 
 mutual
-  stmt_names : (Γ : Env) (s : RawStmt Link) (xs : Fields) (t : Stmt) → BecomesStmt Γ s xs t → length xs ≡ bound_by s
+  pub stmt_names : (Γ : Env) (s : RawStmt Link) (xs : Fields) (t : Stmt) → BecomesStmt Γ s xs t → length xs ≡ bound_by s
   stmt_names Γ (bind at i e) xs t (k, x, h, names, made) = ap length names
   stmt_names Γ (local at i u) xs t (names, made) = ap length names
   stmt_names Γ (set at p e) xs t (k, q, x, h, w, g, names, made) = ap length names
@@ -147,10 +147,10 @@ pub record Sits (σ : Setting) (at : ℕ) (xs : Fields) : Type 0 where
   pub is : σ.binders ≡ before ++ (xs ++ behind)
 
 module _ (σ : Setting) where
-  first_sits : (at : ℕ) (xs ys : Fields) → Sits σ at (xs ++ ys) → Sits σ at xs
+  pub first_sits : (at : ℕ) (xs ys : Fields) → Sits σ at (xs ++ ys) → Sits σ at xs
   first_sits at xs ys h = record { before = h.before; behind = ys ++ h.behind; long = h.long; is = h.is ∙ ap (λ l. h.before ++ l) (append_assoc xs ys h.behind) }
 
-  rest_sits : (at to : ℕ) (xs ys : Fields) → at + length xs ≡ to → Sits σ at (xs ++ ys) → Sits σ to ys
+  pub rest_sits : (at to : ℕ) (xs ys : Fields) → at + length xs ≡ to → Sits σ at (xs ++ ys) → Sits σ to ys
   rest_sits at to xs ys e h = record {
     before = h.before ++ xs;
     behind = h.behind;
@@ -308,15 +308,17 @@ module _ (σ : Setting) (Γ : Env) (c : Counts) (K : Knows σ Γ c) where
 -- ---- statements
 
 module _ (σ : Setting) (formed : AreFormed σ.records) where
-  pub record IsTyped (Γ : Env) (c : Counts) (s : RawStmt Link) (xs : Fields) (t : Stmt) : Type 0 where
+  pub record BecomesTyped (Γ : Env) (c : Counts) (s : RawStmt Link) (xs : Fields) (t : Stmt) : Type 0 where
     pub typed : IsTypedStmt (scope_in σ) c.names t
     pub declared : AreDeclared (length σ.records) xs
     pub next : names_after t c.names ≡ (numbered.after c s).names
     pub knows : Knows σ (body.after Γ s) (numbered.after c s)
+    pub proper : IsProperStmt t
 
-  pub record AreTyped (c : Counts) (xs : Fields) (ts : Stmts) : Type 0 where
+  pub record BecomeTyped (c : Counts) (xs : Fields) (ts : Stmts) : Type 0 where
     pub typed : AreTypedStmts (scope_in σ) c.names ts
     pub declared : AreDeclared (length σ.records) xs
+    pub proper : AreProperStmts ts
 
   abbrev IsOfDeclared : Name × Ty → Type 0
   IsOfDeclared f = Declared (length σ.records) f.1
@@ -338,50 +340,64 @@ module _ (σ : Setting) (formed : AreFormed σ.records) where
     same_bound : (u : Use) → with_name Γ.bound u c.names ≡ with_name c.bound u c.names
     same_bound u = ap (λ n. with_name n u c.names) (sym K.bound)
 
-    bind_typed : (s : RawStmt Link) (name : Name) (k : Scalar) (x : Expr) (new : Ty → Type 0) → ((v : Ty) → new v → v ≡ scalar k)
+    bind_typed : (name : Name) (k : Scalar) (x : Expr) (new : Ty → Type 0) → ((v : Ty) → new v → v ≡ scalar k)
         → Declared (length σ.records) (scalar k) → HasScalar (scope_in σ) c.names x k → Sits σ Γ.bound ((name, scalar k) ∷ [])
         → IsTypedStmt (scope_in σ) c.names (tree.bind Γ.bound x) × Knows σ (body.with_name Γ new false) (naming c read_only)
-    bind_typed s name k x new once d h sits =
-        ((fresh_here (name, scalar k) [] sits, (k, shape_here (name, scalar k) [] sits, h)),
-        knows_named σ Γ c K new false read_only (scalar k) once (λ e. absurd (false≢true e)) (sits_here σ Γ.bound (name, scalar k) [] sits) (sits_within σ Γ.bound (name, scalar k) [] sits) d)
+    bind_typed name k x new once d h sits = (
+      (fresh_here (name, scalar k) [] sits, (k, shape_here (name, scalar k) [] sits, h)),
+      knows_named σ Γ c K new false read_only (scalar k) once (λ e. absurd (false≢true e)) (sits_here σ Γ.bound (name, scalar k) [] sits) (sits_within σ Γ.bound (name, scalar k) [] sits) d,
+    )
 
     set_typed : (p : RawPlace Link) (k : Scalar) (q : Path) (x : Expr) → SeesPlace c p → BecomesPlace Γ p (scalar k) q → Γ.writable (base p) ≡ true → Sends (scope_in σ) c.names x (one k)
         → IsTypedStmt (scope_in σ) c.names (tree.set (place_from q) x)
     set_typed p k q x s h w e =
         (written σ Γ c K p (scalar k) q s h w, (k, whole σ formed Γ c K (scalar k) q (place_typed σ formed Γ c K p (scalar k) q s h), scalar_sent (scope_in σ) c.names x k e))
 
+    pub loop_knows : (name : Name) (n : ℕ) (ys : Fields) → 1 ≤ n → n ≤ 65536 → Sits σ Γ.bound ((name, scalar (is.Ix n)) ∷ ys) → Knows σ (body.with_loop Γ n) (naming c read_only)
+    loop_knows name n ys some few sits =
+        let one : Name × Ty = (name, scalar (is.Ix n)) in
+        knows_named σ Γ c K (λ v. v ≡ scalar (is.Ix n)) false read_only (scalar (is.Ix n)) (λ v m. m) (λ e. absurd (false≢true e)) (sits_here σ Γ.bound one ys sits) (sits_within σ Γ.bound one ys sits)
+        (declared_scalar (length σ.records) (is.Ix n) (some, few))
+
+    place_proper : (p : RawPlace Link) (t : Ty) (q : Path) → SeesPlace c p → BecomesPlace Γ p t q → IsProperPlace (place_from q)
+    place_proper p t q s h = whole_proper σ formed Γ c K t q (place_typed σ formed Γ c K p t q s h)
+
   mutual
-    pub stmt_typed : (Γ : Env) (c : Counts) (K : Knows σ Γ c) (s : RawStmt Link) (xs : Fields) (t : Stmt) → SeesStmt c s → BecomesStmt Γ s xs t → Sits σ Γ.bound xs → IsTyped Γ c s xs t
+    pub stmt_typed : (Γ : Env) (c : Counts) (K : Knows σ Γ c) (s : RawStmt Link) (xs : Fields) (t : Stmt) → SeesStmt c s → BecomesStmt Γ s xs t → Sits σ Γ.bound xs → BecomesTyped Γ c s xs t
     stmt_typed Γ c K (bind at i e) xs t s (k, x, h, names, made) sits =
         let te = expr_typed σ formed Γ c K e (scalar k) x s h in
-        let b = bind_typed Γ c K (bind at i e) i.name k x (λ v. Has Γ e v × (fulfils a_scalar v ≡ true)) (λ v n. expr_once σ formed Γ c K e v (scalar k) n.0.0 x s n.0.1 h)
-            te.declared (scalar_sent (scope_in σ) c.names x k te.sends) (subst (Sits σ Γ.bound) names sits) in
-        subst (λ y. IsTyped Γ c (bind at i e) xs y) (sym made) (record {
+        let b = bind_typed Γ c K i.name k x (λ v. Has Γ e v × (fulfils a_scalar v ≡ true)) (λ v n. expr_once σ formed Γ c K e v (scalar k) n.0.0 x s n.0.1 h)
+        te.declared (scalar_sent (scope_in σ) c.names x k te.sends) (subst (Sits σ Γ.bound) names sits) in
+        subst (λ y. BecomesTyped Γ c (bind at i e) xs y) (sym made) (record {
           typed = b.0;
           declared = subst (AreDeclared (length σ.records)) (sym names) (one_declared (i.name, scalar k) te.declared);
           next = same_bound Γ c K read_only;
           knows = b.1;
+          proper = te.proper;
         })
     stmt_typed Γ c K (local at i u) xs t s (names, made) sits =
         let here = subst (Sits σ Γ.bound) names sits in
         let d = subst (λ n. Declared n (type_of u)) K.all_records (declared c.records u s) in
-        subst (λ y. IsTyped Γ c (local at i u) xs y) (sym made) (record {
+        subst (λ y. BecomesTyped Γ c (local at i u) xs y) (sym made) (record {
           typed = fresh_here Γ c K (i.name, type_of u) [] here;
           declared = subst (AreDeclared (length σ.records)) (sym names) (one_declared (i.name, type_of u) d);
           next = same_bound Γ c K writable;
           knows = knows_named σ Γ c K (λ v. v ≡ type_of u) true writable (type_of u) (λ v n. n) (λ e. refl) (sits_here σ Γ.bound (i.name, type_of u) [] here) (sits_within σ Γ.bound (i.name, type_of u) [] here) d;
+          proper = tt;
         })
     stmt_typed Γ c K (set at p e) xs t s (k, q, x, h, w, g, names, made) sits =
         let te = expr_typed σ formed Γ c K e (scalar k) x s.1 g in
-        subst (λ y. IsTyped Γ c (set at p e) xs y) (sym made) (record {
+        subst (λ y. BecomesTyped Γ c (set at p e) xs y) (sym made) (record {
           typed = set_typed Γ c K p k q x s.0 h w te.sends;
+          proper = (place_proper Γ c K p (scalar k) q s.0 h, te.proper);
           declared = subst (AreDeclared (length σ.records)) (sym names) none_declared;
           next = refl;
           knows = knows_past σ Γ c K Γ 0 (no_more Γ);
         })
     stmt_typed Γ c K (copy at p q) xs t s (v, x, y, h, w, g, names, made) sits =
-        subst (λ z. IsTyped Γ c (copy at p q) xs z) (sym made) (record {
+        subst (λ z. BecomesTyped Γ c (copy at p q) xs z) (sym made) (record {
           typed = (written σ Γ c K p v x s.0 h w, (shaped σ.records v, whole σ formed Γ c K v x (place_typed σ formed Γ c K p v x s.0 h), whole σ formed Γ c K v y (place_typed σ formed Γ c K q v y s.1 g)));
+          proper = (place_proper Γ c K p v x s.0 h, place_proper Γ c K q v y s.1 g);
           declared = subst (AreDeclared (length σ.records)) (sym names) none_declared;
           next = refl;
           knows = knows_past σ Γ c K Γ 0 (no_more Γ);
@@ -393,9 +409,10 @@ module _ (σ : Setting) (formed : AreFormed σ.records) where
         let to : Γ.bound + length ys ≡ (body.after_all Γ a).bound = omega (arith, g.bound, all_names Γ a ys l ha) in
         let ta = all_typed Γ c K a ys l s.1 ha (first_sits σ Γ.bound ys zs here) in
         let tb = all_typed (body.after_all Γ a) (past c (bound_by_all a)) (knows_past σ Γ c K (body.after_all Γ a) (bound_by_all a) g) b zs r s.2 hb
-            (rest_sits σ Γ.bound (body.after_all Γ a).bound ys zs to here) in
-        subst (λ z. IsTyped Γ c (branch at e then_at a else_at b) xs z) (sym made) (record {
+        (rest_sits σ Γ.bound (body.after_all Γ a).bound ys zs to here) in
+        subst (λ z. BecomesTyped Γ c (branch at e then_at a else_at b) xs z) (sym made) (record {
           typed = (scalar_sent (scope_in σ) c.names x is.Bool te.sends, ta.typed, tb.typed);
+          proper = (te.proper, ta.proper, tb.proper);
           declared = subst (AreDeclared (length σ.records)) (sym names) (All-append IsOfDeclared ys zs ta.declared tb.declared);
           next = refl;
           knows = knows_past σ Γ c K (body.after_all (body.after_all Γ a) b) (bound_by_all a + bound_by_all b) (stmt_grows Γ (branch at e then_at a else_at b));
@@ -404,10 +421,10 @@ module _ (σ : Setting) (formed : AreFormed σ.records) where
         let one : Name × Ty = (i.name, scalar (is.Ix n)) in
         let here = subst (Sits σ Γ.bound) names sits in
         let d = declared_scalar (length σ.records) (is.Ix n) (s.0, s.1) in
-        let K1 = knows_named σ Γ c K (λ v. v ≡ scalar (is.Ix n)) false read_only (scalar (is.Ix n)) (λ v m. m) (λ e. absurd (false≢true e)) (sits_here σ Γ.bound one ys here) (sits_within σ Γ.bound one ys here) d in
-        let tb = all_typed (body.with_loop Γ n) (naming c read_only) K1 ss ys l s.2 h (rest_sits σ Γ.bound (Γ.bound + 1) (one ∷ []) ys refl here) in
-        subst (λ z. IsTyped Γ c (loop at i n ss) xs z) (sym made) (record {
+        let tb = all_typed (body.with_loop Γ n) (naming c read_only) (loop_knows Γ c K i.name n ys s.0 s.1 here) ss ys l s.2 h (rest_sits σ Γ.bound (Γ.bound + 1) (one ∷ []) ys refl here) in
+        subst (λ z. BecomesTyped Γ c (loop at i n ss) xs z) (sym made) (record {
           typed = (fresh_here Γ c K one ys here, shape_here Γ c K one ys here, s.0, s.1, subst (λ m. AreTypedStmts (scope_in σ) m l) (sym (same_bound Γ c K read_only)) tb.typed);
+          proper = tb.proper;
           declared = subst (AreDeclared (length σ.records)) (sym names) (All-cons IsOfDeclared one ys d tb.declared);
           next = refl;
           knows = knows_past σ Γ c K (body.after_all (body.with_loop Γ n) ss) (suc (bound_by_all ss)) (stmt_grows Γ (loop at i n ss));
@@ -416,16 +433,17 @@ module _ (σ : Setting) (formed : AreFormed σ.records) where
         let k = emitter_number u.target in
         let lt = emitter_there σ Γ c K u.target s.0 in
         let te = expr_typed σ formed Γ c K e (message_of Γ k) x s.1 h in
-        subst (λ z. IsTyped Γ c (emit at u e) xs z) (sym made) (record {
+        subst (λ z. BecomesTyped Γ c (emit at u e) xs z) (sym made) (record {
           typed = (omega (arith, lt, K.all_emitters), subst (Sends (scope_in σ) c.names x) (sym (K.messages k lt)) te.sends);
+          proper = te.proper;
           declared = subst (AreDeclared (length σ.records)) (sym names) none_declared;
           next = refl;
           knows = knows_past σ Γ c K Γ 0 (no_more Γ);
         })
 
-    pub all_typed : (Γ : Env) (c : Counts) (K : Knows σ Γ c) (ss : RawStmts Link) (xs : Fields) (ts : Stmts) → SeesAll c ss → BecomesAll Γ ss xs ts → Sits σ Γ.bound xs → AreTyped c xs ts
+    pub all_typed : (Γ : Env) (c : Counts) (K : Knows σ Γ c) (ss : RawStmts Link) (xs : Fields) (ts : Stmts) → SeesAll c ss → BecomesAll Γ ss xs ts → Sits σ Γ.bound xs → BecomeTyped c xs ts
     all_typed Γ c K no_stmts xs ts s (names, made) sits =
-        record { typed = subst (AreTypedStmts (scope_in σ) c.names) (sym made) tt; declared = subst (AreDeclared (length σ.records)) (sym names) none_declared }
+        record { typed = subst (AreTypedStmts (scope_in σ) c.names) (sym made) tt; declared = subst (AreDeclared (length σ.records)) (sym names) none_declared; proper = subst AreProperStmts (sym made) tt }
     all_typed Γ c K (stmt s ss) xs ts sees (ys, zs, t, rest, h, hs, names, made) sits =
         let here = subst (Sits σ Γ.bound) names sits in
         let g = stmt_grows Γ s in
@@ -435,4 +453,5 @@ module _ (σ : Setting) (formed : AreFormed σ.records) where
         record {
           typed = subst (AreTypedStmts (scope_in σ) c.names) (sym made) (a.typed, subst (λ m. AreTypedStmts (scope_in σ) m rest) (sym a.next) b.typed);
           declared = subst (AreDeclared (length σ.records)) (sym names) (All-append IsOfDeclared ys zs a.declared b.declared);
+          proper = subst AreProperStmts (sym made) (a.proper, b.proper);
         }

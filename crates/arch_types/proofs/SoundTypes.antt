@@ -1,10 +1,10 @@
 -- A type that a file declares, in the checked tree: what it names and how deep it is, and that its shape is proper.
-use Rattle.std.proofs.Common.{◌≡◌, ℕ, zero, suc, ◌+◌, ◌^◌, ◌<◌, ◌≤◌, List, [], ◌∷◌, length, map, get_or, slice_get, Some, All, refl, ap, sym, subst, ◌∙◌, arith}
+use Rattle.std.proofs.Common.{◌≡◌, ℕ, zero, suc, ◌+◌, ◌^◌, ◌<◌, ◌≤◌, [], ◌∷◌, length, map, get_or, slice_get, Some, All, refl, ap, sym, subst, arith}
 use Rattle.std.proofs.lemmas.List.Elements.{All-head, All-tail, All-weaker}
-use Rattle.std.proofs.lemmas.Option.{slice_get-get_or, slice_get_within}
+use Rattle.std.proofs.lemmas.Option.{slice_get-get_or}
 use Rattle.tower_types.specs.declared.scalar.Scalar.{Scalar}
 use Rattle.tower_types.specs.declared.scalar.Scalar.TheVariants as is
-use Rattle.tower_types.specs.Ty.{Ty, Fields, Records, scalar, array, rec, NamesBelow, nesting, Shape, shape_in, shapes_of, shape_of_fields, table_of}
+use Rattle.tower_types.specs.Ty.{Ty, Fields, Records, scalar, array, rec, NamesBelow, nesting, Shape, shape_in, shapes_of, table_of}
 use Rattle.tower_types.specs.Records.{IsTypeAmong, AreOrdered}
 use Rattle.tower_types.proofs.Shapes.{shape_of-rec}
 use Rattle.tower_syntax.specs.declared.named.Target.{Target}

@@ -11,5 +11,8 @@ pub mod Numbered
 pub mod Turns
 pub mod Right
 pub mod Worked
+pub mod WorkedTable
+pub mod WorkedNumbers
 pub mod Shallow
+pub mod Scalars
 pub mod Laws

@@ -9,7 +9,9 @@ ghost use Rattle.arch_types.specs.Order.{Ascends};
 ghost use Rattle.arch_types.specs.Right.{IsKnown, env_of, Uses};
 ghost use Rattle.arch_types.specs.Seen.{known};
 ghost use Rattle.arch_types.specs.Worked.{WorkedTypes};
-ghost use Rattle.arch_types.specs.Laws.{CheckedLaw, ShallowLaw};
+ghost use Rattle.arch_types.specs.WorkedTable.{WorkedTable, WorkedFile};
+ghost use Rattle.arch_types.specs.Laws.{CheckedLaw, ScalarsLaw, ShallowLaw, TreesAreDetermined};
+ghost use Rattle.arch_types.specs.WorkedNumbers.{WorkedNumbers};
 ghost use Rattle.arch_types.specs.declared.fault.TypeFault.TheVariants.{NoMemory};
 
 use crate::exprs::check_expr;
@@ -45,12 +47,37 @@ pub fn worked_types()
     ensures { WorkedTypes }
 {}
 
+/// The rows of the type table, right and wrong at each child.
+pub fn worked_table()
+    ensures { WorkedTable }
+{}
+
+/// A file in which a state takes a message of its type, and of another.
+pub fn worked_file()
+    ensures { WorkedFile }
+{}
+
 /// The checked tree of a file whose names are numbered is well numbered and typed.
 pub fn checked_law()
     ensures { CheckedLaw }
 {}
 
+/// Such a file has at most one checked tree.
+pub fn trees_are_determined()
+    ensures { TreesAreDetermined }
+{}
+
+/// Each number in the checked tree of such a file is of a scalar that has values.
+pub fn scalars_law()
+    ensures { ScalarsLaw }
+{}
+
 /// The checked tree of a file without offence has no expression or place above height 24.
 pub fn shallow_law()
     ensures { ShallowLaw }
+{}
+
+/// Worked scopes, and a file with its checked tree.
+pub fn worked_numbers()
+    ensures { WorkedNumbers }
 {}
