@@ -128,30 +128,31 @@ module _ (γ : Known) (has : Target → Ty → Type 0) (k : Knows γ has) (at : 
         let rest = first_left in_left in_right f else_at p (left_before bound o f p.is_one) (λ g y. let l = right_after bound o g y in omega arith) in
         let l = left_after bound o f p.is_one in let m = between bound o in
         let first = told_first (Unit {0}) at_test (λ g. in_left g ⊎ in_right g) (high_expr c) f then_at (told_test bound o broken) (tt {0}) rest (omega arith) (test_below bound o)
-            (λ g y. elim y [ inl z ↦ (let i = left_after bound o g z in omega arith) | inr z ↦ (let i = right_after bound o g z in omega arith) ]) in
-        (first_of_same (λ g. at_test g ⊎ (in_left g ⊎ in_right g)) all (earlier (high_expr c) f)
-        (λ g y. elim y [
-          | inl z ↦ inr (inl z)
-          | inr z ↦ elim z [
-            | inl w ↦ elim w [ inl v ↦ inl (inr (inl v)) | inr v ↦ inr (inr (inl v)) ]
-            | inr w ↦ elim w [ inl v ↦ inl (inr (inr (inl v))) | inr v ↦ inr (inr (inr v)) ]
-          ]
-        ])
-        (λ g y. elim y [
-          | inl z ↦ elim z [
-            | inl w ↦ absurd (no_fault g w)
-            | inr w ↦ elim w [
-              | inl v ↦ inr (inl (inl v))
-              | inr v ↦ elim v [ inl u ↦ inr (inr (inl u)) | inr u ↦ absurd (n u.0) ]
-            ]
-          ]
-          | inr z ↦ elim z [
-            | inl w ↦ inl w
-            | inr w ↦ elim w [ inl v ↦ inr (inl (inr v)) | inr v ↦ inr (inr (inr v)) ]
-          ]
-        ])
-        first,
-        λ w. n (λ g y. w g (inr (inl y))))
+        (λ g y. elim y [ inl z ↦ (let i = left_after bound o g z in omega arith) | inr z ↦ (let i = right_after bound o g z in omega arith) ]) in (
+          first_of_same (λ g. at_test g ⊎ (in_left g ⊎ in_right g)) all (earlier (high_expr c) f)
+              (λ g y. elim y [
+                | inl z ↦ inr (inl z)
+                | inr z ↦ elim z [
+                  | inl w ↦ elim w [ inl v ↦ inl (inr (inl v)) | inr v ↦ inr (inr (inl v)) ]
+                  | inr w ↦ elim w [ inl v ↦ inl (inr (inr (inl v))) | inr v ↦ inr (inr (inr v)) ]
+                ]
+              ])
+              (λ g y. elim y [
+                | inl z ↦ elim z [
+                  | inl w ↦ absurd (no_fault g w)
+                  | inr w ↦ elim w [
+                    | inl v ↦ inr (inl (inl v))
+                    | inr v ↦ elim v [ inl u ↦ inr (inr (inl u)) | inr u ↦ absurd (n u.0) ]
+                  ]
+                ]
+                | inr z ↦ elim z [
+                  | inl w ↦ inl w
+                  | inr w ↦ elim w [ inl v ↦ inr (inl (inr v)) | inr v ↦ inr (inr (inr v)) ]
+                ]
+              ])
+              first,
+          λ w. n (λ g y. w g (inr (inl y))),
+        )
 
     module _ (l : AllWalked) (left : RightAll γ Γ a (Ok l)) where
       abbrev high : Option High
@@ -173,27 +174,28 @@ module _ (γ : Known) (has : Target → Ty → Type 0) (k : Knows γ has) (at : 
           let p = (h (bound, o.5)).0 in let n = (h (bound, o.5)).1 in
           let broken = λ (y : IsClean (λ g. BreaksAll Γ a g)) (z : IsClean (λ g. BreaksAll Δ b g)). n z in
           let i = right_after bound o f p.is_one in
-          let first = told_first (Unit {0}) so_far in_right high f else_at (told_so_far (Unit {0}) (λ u. (bound, o)) (told_test bound o broken)) (tt {0}) p (omega arith) (so_far_below bound o) (λ g y. let j = right_after bound o g y in omega arith) in
-          (first_of_same (λ g. so_far g ⊎ in_right g) all (earlier high f)
-          (λ g y. elim y [
-            | inl z ↦ elim z [ inl w ↦ inr (inl w) | inr w ↦ inr (inr (inl w)) ]
-            | inr z ↦ elim z [ inl w ↦ inl (inr (inr (inl w))) | inr w ↦ inr (inr (inr w)) ]
-          ])
-          (λ g y. elim y [
-            | inl z ↦ elim z [
-              | inl w ↦ absurd (no_fault g w)
-              | inr w ↦ elim w [
-                | inl v ↦ absurd (left.clean g v)
-                | inr v ↦ elim v [ inl u ↦ inr (inl u) | inr u ↦ absurd (n u.1) ]
-              ]
-            ]
-            | inr z ↦ elim z [
-              | inl w ↦ inl (inl w)
-              | inr w ↦ elim w [ inl v ↦ inl (inr v) | inr v ↦ inr (inr v) ]
-            ]
-          ])
-          first,
-          λ w. n (λ g y. w g (inr (inr (inl y)))))
+          let first = told_first (Unit {0}) so_far in_right high f else_at (told_so_far (Unit {0}) (λ u. (bound, o)) (told_test bound o broken)) (tt {0}) p (omega arith) (so_far_below bound o) (λ g y. let j = right_after bound o g y in omega arith) in (
+            first_of_same (λ g. so_far g ⊎ in_right g) all (earlier high f)
+                (λ g y. elim y [
+                  | inl z ↦ elim z [ inl w ↦ inr (inl w) | inr w ↦ inr (inr (inl w)) ]
+                  | inr z ↦ elim z [ inl w ↦ inl (inr (inr (inl w))) | inr w ↦ inr (inr (inr w)) ]
+                ])
+                (λ g y. elim y [
+                  | inl z ↦ elim z [
+                    | inl w ↦ absurd (no_fault g w)
+                    | inr w ↦ elim w [
+                      | inl v ↦ absurd (left.clean g v)
+                      | inr v ↦ elim v [ inl u ↦ inr (inl u) | inr u ↦ absurd (n u.1) ]
+                    ]
+                  ]
+                  | inr z ↦ elim z [
+                    | inl w ↦ inl (inl w)
+                    | inr w ↦ elim w [ inl v ↦ inl (inr v) | inr v ↦ inr (inr v) ]
+                  ]
+                ])
+                first,
+            λ w. n (λ g y. w g (inr (inr (inl y)))),
+          )
 
       module _ (r : AllWalked) (next : RightAll (with_binders γ l.binders l.writable) Δ b (Ok r)) where
         mismatch_least : (bound : ℕ) (o : AscendsStmt whole bound) (f : TypeFault) → misfit γ.names C (exactly (scalar is.Bool)) x.ty ≡ Some f → (g : TypeFault) → all g → (g ≡ f) ⊎ (offset f < offset g)

@@ -116,17 +116,20 @@ module _ (γ : Known) (has : Target → Ty → Type 0) (k : Knows γ has) where
         → misfit γ.names E (exactly x.ty) y.ty ≡ n
         → RightStmt γ Γ (set at p e) (tested (if_writable b P None) (tested m (behind (high_place p) (tested n (Ok (plain γ (first_high (high_place p) (high_expr e)) (tree.set (place_from x.path) y.tree)))))))
     set_tests x y h g false m n w i j =
-        λ o. let n = set_ones Γ k.one p e in let s = set_spans Γ p e o.0 o.1.1 o.1.2 in let f = fault.NotPlace P in let z = ap (λ b. if_writable b P (misfit γ.names P a_scalar x.ty)) w in
-        (two_offends_third (place_child Γ p) (expr_child Γ e) (wants_writable_scalar Γ p) (like_the_first Γ E) n (place_height p) (height e) o.0 s x.ty y.ty f (x.path, h) (y.tree, g) z refl,
-        λ c. c f (two_third (place_child Γ p) (expr_child Γ e) (wants_writable_scalar Γ p) (like_the_first Γ E) o.0 s n x.ty y.ty f (x.path, h) (y.tree, g) z).is_one)
+        λ o. let n = set_ones Γ k.one p e in let s = set_spans Γ p e o.0 o.1.1 o.1.2 in let f = fault.NotPlace P in let z = ap (λ b. if_writable b P (misfit γ.names P a_scalar x.ty)) w in (
+          two_offends_third (place_child Γ p) (expr_child Γ e) (wants_writable_scalar Γ p) (like_the_first Γ E) n (place_height p) (height e) o.0 s x.ty y.ty f (x.path, h) (y.tree, g) z refl,
+          λ c. c f (two_third (place_child Γ p) (expr_child Γ e) (wants_writable_scalar Γ p) (like_the_first Γ E) o.0 s n x.ty y.ty f (x.path, h) (y.tree, g) z).is_one,
+        )
     set_tests x y h g true (Some f) n w i j =
-        λ o. let n = set_ones Γ k.one p e in let s = set_spans Γ p e o.0 o.1.1 o.1.2 in let z = ap (λ b. if_writable b P (misfit γ.names P a_scalar x.ty)) w ∙ i in
-        (two_offends_third (place_child Γ p) (expr_child Γ e) (wants_writable_scalar Γ p) (like_the_first Γ E) n (place_height p) (height e) o.0 s x.ty y.ty f (x.path, h) (y.tree, g) z (wants_at Γ P a_scalar none_before x.ty f i),
-        λ c. c f (two_third (place_child Γ p) (expr_child Γ e) (wants_writable_scalar Γ p) (like_the_first Γ E) o.0 s n x.ty y.ty f (x.path, h) (y.tree, g) z).is_one)
+        λ o. let n = set_ones Γ k.one p e in let s = set_spans Γ p e o.0 o.1.1 o.1.2 in let z = ap (λ b. if_writable b P (misfit γ.names P a_scalar x.ty)) w ∙ i in (
+          two_offends_third (place_child Γ p) (expr_child Γ e) (wants_writable_scalar Γ p) (like_the_first Γ E) n (place_height p) (height e) o.0 s x.ty y.ty f (x.path, h) (y.tree, g) z (wants_at Γ P a_scalar none_before x.ty f i),
+          λ c. c f (two_third (place_child Γ p) (expr_child Γ e) (wants_writable_scalar Γ p) (like_the_first Γ E) o.0 s n x.ty y.ty f (x.path, h) (y.tree, g) z).is_one,
+        )
     set_tests x y h g true None (Some f) w i j =
-        λ o. let n = set_ones Γ k.one p e in let s = set_spans Γ p e o.0 o.1.1 o.1.2 in let z = ap (λ b. if_writable b P (misfit γ.names P a_scalar x.ty)) w ∙ i in
-        (two_offends_fourth (place_child Γ p) (expr_child Γ e) (wants_writable_scalar Γ p) (like_the_first Γ E) n (place_height p) (height e) o.0 s x.ty y.ty f (x.path, h) (y.tree, g) z j (like_at Γ E x.ty y.ty f j),
-        λ c. c f (two_fourth (place_child Γ p) (expr_child Γ e) (wants_writable_scalar Γ p) (like_the_first Γ E) o.0 s n x.ty y.ty f (x.path, h) (y.tree, g) z j).is_one)
+        λ o. let n = set_ones Γ k.one p e in let s = set_spans Γ p e o.0 o.1.1 o.1.2 in let z = ap (λ b. if_writable b P (misfit γ.names P a_scalar x.ty)) w ∙ i in (
+          two_offends_fourth (place_child Γ p) (expr_child Γ e) (wants_writable_scalar Γ p) (like_the_first Γ E) n (place_height p) (height e) o.0 s x.ty y.ty f (x.path, h) (y.tree, g) z j (like_at Γ E x.ty y.ty f j),
+          λ c. c f (two_fourth (place_child Γ p) (expr_child Γ e) (wants_writable_scalar Γ p) (like_the_first Γ E) o.0 s n x.ty y.ty f (x.path, h) (y.tree, g) z j).is_one,
+        )
     set_tests x y h g true None None w i j =
         let n = set_ones Γ k.one p e in let z = ap (λ b. if_writable b P (misfit γ.names P a_scalar x.ty)) w ∙ i in
         let v = any_scalar x.ty (unless_none (fulfils a_scalar x.ty) _ i) in let u = same_true x.ty y.ty (unless_none (same x.ty y.ty) _ j) in record {
@@ -142,13 +145,15 @@ module _ (γ : Known) (has : Target → Ty → Type 0) (k : Knows γ has) where
     pub set_right : (r : Result TypedPlace TypeFault) (z : Result TypedExpr TypeFault) → RightPlace Γ p r → Right Γ e z
         → RightStmt γ Γ (set at p e) (and_then r (λ x. and_then (behind (high_place p) z) (λ y. walk.set_row γ p e x y)))
     set_right (Err f) z h g =
-        λ o. let n = set_ones Γ k.one p e in let s = set_spans Γ p e o.0 o.1.1 o.1.2 in
-        (two_offends (place_child Γ p) (expr_child Γ e) (wants_writable_scalar Γ p) (like_the_first Γ E) n (place_height p) (height e) o.0 s f (h E o.1.1),
-        λ c. c f (two_first (place_child Γ p) (expr_child Γ e) (wants_writable_scalar Γ p) (like_the_first Γ E) o.0 s n f (h E o.1.1)).is_one)
+        λ o. let n = set_ones Γ k.one p e in let s = set_spans Γ p e o.0 o.1.1 o.1.2 in (
+          two_offends (place_child Γ p) (expr_child Γ e) (wants_writable_scalar Γ p) (like_the_first Γ E) n (place_height p) (height e) o.0 s f (h E o.1.1),
+          λ c. c f (two_first (place_child Γ p) (expr_child Γ e) (wants_writable_scalar Γ p) (like_the_first Γ E) o.0 s n f (h E o.1.1)).is_one,
+        )
     set_right (Ok x) (Err f) h g =
-        λ o. let n = set_ones Γ k.one p e in let s = set_spans Γ p e o.0 o.1.1 o.1.2 in
-        (two_offends_second (place_child Γ p) (expr_child Γ e) (wants_writable_scalar Γ p) (like_the_first Γ E) n (place_height p) (height e) o.0 s x.ty f (x.path, h) (g o.0 o.1.2),
-        λ c. c f (two_second (place_child Γ p) (expr_child Γ e) (wants_writable_scalar Γ p) (like_the_first Γ E) o.0 s n x.ty f (x.path, h) (g o.0 o.1.2)).is_one)
+        λ o. let n = set_ones Γ k.one p e in let s = set_spans Γ p e o.0 o.1.1 o.1.2 in (
+          two_offends_second (place_child Γ p) (expr_child Γ e) (wants_writable_scalar Γ p) (like_the_first Γ E) n (place_height p) (height e) o.0 s x.ty f (x.path, h) (g o.0 o.1.2),
+          λ c. c f (two_second (place_child Γ p) (expr_child Γ e) (wants_writable_scalar Γ p) (like_the_first Γ E) o.0 s n x.ty f (x.path, h) (g o.0 o.1.2)).is_one,
+        )
     set_right (Ok x) (Ok y) h g = set_tests x y h g (Γ.writable (base p)) (misfit γ.names P a_scalar x.ty) (misfit γ.names E (exactly x.ty) y.ty) refl refl refl
 
   module _ (at : ℕ) (p v : RawPlace Link) where
@@ -161,13 +166,15 @@ module _ (γ : Known) (has : Target → Ty → Type 0) (k : Knows γ has) where
     copy_tests : (x y : TypedPlace) → BecomesPlace Γ p x.ty x.path → BecomesPlace Γ v y.ty y.path → (b : Bool) (n : Option TypeFault) → Γ.writable (base p) ≡ b → misfit γ.names B (exactly x.ty) y.ty ≡ n
         → RightStmt γ Γ (copy at p v) (tested (if_writable b A None) (behind (high_place p) (tested n (Ok (plain γ (first_high (high_place p) (high_place v)) (tree.copy (place_from x.path) (place_from y.path)))))))
     copy_tests x y h g false n w j =
-        λ o. let n = copy_ones Γ k.one p v in let s = copy_spans Γ p v o.0 o.1.1 o.1.2 in let f = fault.NotPlace A in let z = ap (λ b. if_writable b A None) w in
-        (two_offends_third (place_child Γ p) (place_child Γ v) (wants_writable Γ p) (like_the_first Γ B) n (place_height p) (place_height v) o.0 s x.ty y.ty f (x.path, h) (y.path, g) z refl,
-        λ c. c f (two_third (place_child Γ p) (place_child Γ v) (wants_writable Γ p) (like_the_first Γ B) o.0 s n x.ty y.ty f (x.path, h) (y.path, g) z).is_one)
+        λ o. let n = copy_ones Γ k.one p v in let s = copy_spans Γ p v o.0 o.1.1 o.1.2 in let f = fault.NotPlace A in let z = ap (λ b. if_writable b A None) w in (
+          two_offends_third (place_child Γ p) (place_child Γ v) (wants_writable Γ p) (like_the_first Γ B) n (place_height p) (place_height v) o.0 s x.ty y.ty f (x.path, h) (y.path, g) z refl,
+          λ c. c f (two_third (place_child Γ p) (place_child Γ v) (wants_writable Γ p) (like_the_first Γ B) o.0 s n x.ty y.ty f (x.path, h) (y.path, g) z).is_one,
+        )
     copy_tests x y h g true (Some f) w j =
-        λ o. let n = copy_ones Γ k.one p v in let s = copy_spans Γ p v o.0 o.1.1 o.1.2 in let z = ap (λ b. if_writable b A None) w in
-        (two_offends_fourth (place_child Γ p) (place_child Γ v) (wants_writable Γ p) (like_the_first Γ B) n (place_height p) (place_height v) o.0 s x.ty y.ty f (x.path, h) (y.path, g) z j (like_at Γ B x.ty y.ty f j),
-        λ c. c f (two_fourth (place_child Γ p) (place_child Γ v) (wants_writable Γ p) (like_the_first Γ B) o.0 s n x.ty y.ty f (x.path, h) (y.path, g) z j).is_one)
+        λ o. let n = copy_ones Γ k.one p v in let s = copy_spans Γ p v o.0 o.1.1 o.1.2 in let z = ap (λ b. if_writable b A None) w in (
+          two_offends_fourth (place_child Γ p) (place_child Γ v) (wants_writable Γ p) (like_the_first Γ B) n (place_height p) (place_height v) o.0 s x.ty y.ty f (x.path, h) (y.path, g) z j (like_at Γ B x.ty y.ty f j),
+          λ c. c f (two_fourth (place_child Γ p) (place_child Γ v) (wants_writable Γ p) (like_the_first Γ B) o.0 s n x.ty y.ty f (x.path, h) (y.path, g) z j).is_one,
+        )
     copy_tests x y h g true None w j =
         let n = copy_ones Γ k.one p v in let z = ap (λ b. if_writable b A None) w in
         let u = same_true x.ty y.ty (unless_none (same x.ty y.ty) _ j) in record {
@@ -183,13 +190,15 @@ module _ (γ : Known) (has : Target → Ty → Type 0) (k : Knows γ has) where
     pub copy_right : (r z : Result TypedPlace TypeFault) → RightPlace Γ p r → RightPlace Γ v z
         → RightStmt γ Γ (copy at p v) (and_then r (λ x. and_then (behind (high_place p) z) (λ y. walk.copy_row γ p v x y)))
     copy_right (Err f) z h g =
-        λ o. let n = copy_ones Γ k.one p v in let s = copy_spans Γ p v o.0 o.1.1 o.1.2 in
-        (two_offends (place_child Γ p) (place_child Γ v) (wants_writable Γ p) (like_the_first Γ B) n (place_height p) (place_height v) o.0 s f (h B o.1.1),
-        λ c. c f (two_first (place_child Γ p) (place_child Γ v) (wants_writable Γ p) (like_the_first Γ B) o.0 s n f (h B o.1.1)).is_one)
+        λ o. let n = copy_ones Γ k.one p v in let s = copy_spans Γ p v o.0 o.1.1 o.1.2 in (
+          two_offends (place_child Γ p) (place_child Γ v) (wants_writable Γ p) (like_the_first Γ B) n (place_height p) (place_height v) o.0 s f (h B o.1.1),
+          λ c. c f (two_first (place_child Γ p) (place_child Γ v) (wants_writable Γ p) (like_the_first Γ B) o.0 s n f (h B o.1.1)).is_one,
+        )
     copy_right (Ok x) (Err f) h g =
-        λ o. let n = copy_ones Γ k.one p v in let s = copy_spans Γ p v o.0 o.1.1 o.1.2 in
-        (two_offends_second (place_child Γ p) (place_child Γ v) (wants_writable Γ p) (like_the_first Γ B) n (place_height p) (place_height v) o.0 s x.ty f (x.path, h) (g o.0 o.1.2),
-        λ c. c f (two_second (place_child Γ p) (place_child Γ v) (wants_writable Γ p) (like_the_first Γ B) o.0 s n x.ty f (x.path, h) (g o.0 o.1.2)).is_one)
+        λ o. let n = copy_ones Γ k.one p v in let s = copy_spans Γ p v o.0 o.1.1 o.1.2 in (
+          two_offends_second (place_child Γ p) (place_child Γ v) (wants_writable Γ p) (like_the_first Γ B) n (place_height p) (place_height v) o.0 s x.ty f (x.path, h) (g o.0 o.1.2),
+          λ c. c f (two_second (place_child Γ p) (place_child Γ v) (wants_writable Γ p) (like_the_first Γ B) o.0 s n x.ty f (x.path, h) (g o.0 o.1.2)).is_one,
+        )
     copy_right (Ok x) (Ok y) h g = copy_tests x y h g (Γ.writable (base p)) (misfit γ.names B (exactly x.ty) y.ty) refl refl
 
   -- ---- a loop

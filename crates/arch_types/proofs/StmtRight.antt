@@ -67,15 +67,16 @@ module _ (γ : Known) (has : Target → Ty → Type 0) (k : Knows γ has) (s : R
 
   joined_right : (d : Walked) (r : Result AllWalked TypeFault) → RightStmt γ Γ s (Ok d) → RightAll (with_binders γ d.binders d.writable) Δ ss r → RightAll γ Γ (stmt s ss) (joined d r)
   joined_right d (Err f) h i = λ w. let bound = w.0 in let o = w.1 in
-      let p = (i (bound, o.1)).0 in let n = (i (bound, o.1)).1 in let l = there_after bound o f p.is_one in
-      (first_of_same (λ g. Deeps Γ s g ⊎ there g) (λ g. Offends Γ (stmt s ss) g) (earlier d.high f)
-      (λ g y. elim y [ inl z ↦ inr (inl z) | inr z ↦ apart g (inr z) ])
-      (λ g y. elim (together g y) [
-        | inl z ↦ elim z [ inl w ↦ absurd (h.clean g w) | inr w ↦ inl w ]
-        | inr z ↦ inr z
-      ])
-      (told_first (IsOrdered s) (λ g. Deeps Γ s g) there d.high f (start_in ss bound) h.told (start_in ss bound, o.0) p (omega arith) (λ g y. here_before bound o g (inr y)) (there_from bound o)),
-      λ m. n (λ g y. m g (inr y)))
+      let p = (i (bound, o.1)).0 in let n = (i (bound, o.1)).1 in let l = there_after bound o f p.is_one in (
+        first_of_same (λ g. Deeps Γ s g ⊎ there g) (λ g. Offends Γ (stmt s ss) g) (earlier d.high f)
+            (λ g y. elim y [ inl z ↦ inr (inl z) | inr z ↦ apart g (inr z) ])
+            (λ g y. elim (together g y) [
+              | inl z ↦ elim z [ inl w ↦ absurd (h.clean g w) | inr w ↦ inl w ]
+              | inr z ↦ inr z
+            ])
+            (told_first (IsOrdered s) (λ g. Deeps Γ s g) there d.high f (start_in ss bound) h.told (start_in ss bound, o.0) p (omega arith) (λ g y. here_before bound o g (inr y)) (there_from bound o)),
+        λ m. n (λ g y. m g (inr y)),
+      )
   joined_right d (Ok r) h i = record {
     names = h.names ++ i.names;
     bound = joined_bound γ.binders d.binders r.binders h.names i.names h.bound i.bound;
@@ -90,9 +91,10 @@ module _ (γ : Known) (has : Target → Ty → Type 0) (k : Knows γ has) (s : R
       → ((w : Walked) → RightStmt γ Γ s (Ok w) → RightAll (with_binders γ w.binders w.writable) Δ ss (next w))
       → RightAll γ Γ (stmt s ss) (and_then d (λ w. joined w (next w)))
   list_right (Err f) next h later = λ w. let bound = w.0 in let o = w.1 in
-      let p = (h (start_in ss bound, o.0)).0 in let n = (h (start_in ss bound, o.0)).1 in
-      (first_of_same (λ g. here g ⊎ there g) (λ g. Offends Γ (stmt s ss) g) f apart together (first_left here there f (start_in ss bound) p (here_before bound o f p.is_one) (there_from bound o)),
-      λ m. n (λ g y. m g (inl y)))
+      let p = (h (start_in ss bound, o.0)).0 in let n = (h (start_in ss bound, o.0)).1 in (
+        first_of_same (λ g. here g ⊎ there g) (λ g. Offends Γ (stmt s ss) g) f apart together (first_left here there f (start_in ss bound) p (here_before bound o f p.is_one) (there_from bound o)),
+        λ m. n (λ g y. m g (inl y)),
+      )
   list_right (Ok w) next h later = joined_right w (next w) h (later w h)
 
 pub seen_by : (γ : Known) (Γ : Env) (ss : RawStmts Link) (r : Result AllWalked TypeFault) → Agrees Γ γ → RightAll γ (env_with γ Γ.has) ss r → RightAll γ Γ ss r

@@ -1,5 +1,5 @@
 -- The rows of the type table, right and wrong at each child, and a whole file with its fault.
-use Rattle.std.specs.Prelude.{◌≡◌, ℕ, ℤ, pos, List, [], ◌∷◌, codes, Option, Some, None, Result, Ok, Err, true}
+use Rattle.std.specs.Prelude.{◌≡◌, ℕ, pos, List, [], ◌∷◌, codes, Option, Some, None, Result, Ok, Err, true}
 use Rattle.tower_types.specs.declared.scalar.Scalar.{Scalar}
 use Rattle.tower_types.specs.declared.scalar.Scalar.TheVariants as is
 use Rattle.tower_types.specs.declared.scalar.BinOp.{BinOp}
@@ -8,7 +8,7 @@ use Rattle.tower_types.specs.declared.scalar.UnOp.{UnOp}
 use Rattle.tower_types.specs.declared.scalar.UnOp.TheVariants as un_op
 use Rattle.tower_types.specs.Ty.{Ty, scalar, array, rec as record_type}
 use Rattle.tower_syntax.specs.declared.named.Target.TheVariants as target
-use Rattle.tower_syntax.specs.RawTree.{Id, Link, RawType, word, RawPlace, root, get, index, RawExpr, truth, read, lit, un, bin, choose, cast, RawStmt, bind, local, set, copy, loop, emit, RawStmts, no_stmts, stmt, Raw, signal, monitor, state, handler, callback}
+use Rattle.tower_syntax.specs.RawTree.{Id, Link, word, RawPlace, root, get, index, RawExpr, truth, read, lit, un, bin, choose, cast, RawStmt, bind, set, copy, loop, emit, no_stmts, stmt, RawHpart, callback, RawPart, state, handler, RawItem, signal, monitor, Raw}
 use Rattle.arch_types.specs.declared.fault.Want.{Want}
 use Rattle.arch_types.specs.declared.fault.Want.TheVariants as want
 use Rattle.arch_types.specs.declared.fault.TypeFault.{TypeFault}
@@ -146,21 +146,26 @@ pub record WorkedTable : Type 0 where
 abbrev pub id : ℕ → List ℕ → Id
 id at name = record { at = at; name = name }
 
+abbrev pub set_message : RawStmt Link
+set_message = set 75 (state_at 80 0) (read (root (record { at = 82; target = target.Param })))
+
+abbrev pub the_callback : RawHpart Link
+the_callback = callback 63 (id 73 (codes "v")) (stmt set_message no_stmts)
+
+abbrev pub the_handler : RawPart Link
+the_handler = handler 50 (id 59 (codes "h")) (record { at = 61; target = target.Source 0 }) (the_callback ∷ [])
+
+abbrev pub the_state : Scalar → RawPart Link
+the_state held = state 36 (id 43 (codes "x")) (word 45 held)
+
+abbrev pub the_signal : Scalar → RawItem Link
+the_signal message = signal 9 (id 17 (codes "s")) (word 19 message) 1 None
+
+abbrev pub the_monitor : Scalar → RawItem Link
+the_monitor held = monitor 25 (id 34 (codes "m")) (the_state held ∷ the_handler ∷ [])
+
 abbrev pub file_of : Scalar → Scalar → Raw Link
-file_of message held = record {
-  at = 0;
-  version = 1;
-  name = id 7 (codes "t");
-  items =
-      signal 9 (id 17 (codes "s")) (word 19 message) 1 None
-      ∷ monitor 25 (id 34 (codes "m")) (
-      state 36 (id 43 (codes "x")) (word 45 held)
-      ∷ handler 50 (id 59 (codes "h")) (record { at = 61; target = target.Source 0 })
-      (callback 63 (id 73 (codes "v")) (stmt (set 75 (state_at 80 0) (read (root (record { at = 82; target = target.Param })))) no_stmts) ∷ [])
-      ∷ []
-      )
-      ∷ [];
-}
+file_of message held = record { at = 0; version = 1; name = id 7 (codes "t"); items = the_signal message ∷ the_monitor held ∷ [] }
 
 abbrev pub file_fault : {A : Type 0} → Result A TypeFault → Option TypeFault
 file_fault (Ok hs) = None

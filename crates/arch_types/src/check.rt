@@ -143,7 +143,10 @@ fn add_handler(
     match part {
         NamedPart::State { .. } => Ok(()),
         NamedPart::Handler {
-            name, on, parts, ..
+            name,
+            on,
+            parts,
+            ..
         } => {
             let handler = check_handler(alloc, system, monitor, name, on, parts.as_slice())?;
             made.push(handler)?;
@@ -186,12 +189,7 @@ fn add_monitor(
             add_handlers(alloc, system, made, monitor, parts.as_slice())?;
             Ok(after)
         }
-        NamedItem::Record { .. } => Ok(monitor),
-        NamedItem::Init { .. } => Ok(monitor),
-        NamedItem::Period { .. } => Ok(monitor),
-        NamedItem::Signal { .. } => Ok(monitor),
-        NamedItem::Channel { .. } => Ok(monitor),
-        NamedItem::Output { .. } => Ok(monitor),
+        _ => Ok(monitor),
     }
 }
 

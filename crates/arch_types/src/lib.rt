@@ -12,6 +12,8 @@ mod outline;
 mod rows;
 mod scope;
 mod stmts;
+#[cfg(test)]
+mod tests;
 mod text;
 mod wanted;
 

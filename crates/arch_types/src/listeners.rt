@@ -41,11 +41,7 @@ fn add_part(made: &mut Items<Listener>, number: u32, part: &NamedPart) -> Result
 }
 
 /// Adds the handlers of a monitor, which are numbered from `first` on. The number behind them is answered.
-fn add_parts(
-    made: &mut Items<Listener>,
-    first: u32,
-    parts: &[NamedPart],
-) -> Result<u32, NoMemory>
+fn add_parts(made: &mut Items<Listener>, first: u32, parts: &[NamedPart]) -> Result<u32, NoMemory>
     ensures listeners { OnOk result (made.new ≡ made.old ++ part_listeners first (map named_part_of parts.now)) }
     ensures number { IfOk result (λ n. n ≡ first + handlers_in (map named_part_of parts.now)) }
 {
@@ -76,11 +72,7 @@ fn add_item(
                 ..numbers
             })
         }
-        NamedItem::Record { .. } => Ok(numbers),
-        NamedItem::Init { .. } => Ok(numbers),
-        NamedItem::Period { .. } => Ok(numbers),
-        NamedItem::Signal { .. } => Ok(numbers),
-        NamedItem::Channel { .. } => Ok(numbers),
+        _ => Ok(numbers),
     }
 }
 

@@ -50,12 +50,7 @@ fn add_record(alloc: Global, made: &mut Records, item: &NamedItem) -> Result<(),
             made.push(fields)?;
             Ok(())
         }
-        NamedItem::Init { .. } => Ok(()),
-        NamedItem::Period { .. } => Ok(()),
-        NamedItem::Signal { .. } => Ok(()),
-        NamedItem::Channel { .. } => Ok(()),
-        NamedItem::Output { .. } => Ok(()),
-        NamedItem::Monitor { .. } => Ok(()),
+        _ => Ok(()),
     }
 }
 
@@ -71,11 +66,7 @@ fn records(alloc: Global, items: &[NamedItem]) -> Result<Records, NoMemory>
     Ok(made)
 }
 
-fn add_record_name(
-    alloc: Global,
-    made: &mut Items<Name>,
-    item: &NamedItem,
-) -> Result<(), NoMemory>
+fn add_record_name(alloc: Global, made: &mut Items<Name>, item: &NamedItem) -> Result<(), NoMemory>
     ensures { OnOk result (made.new ≡ made.old ++ record_name_of (named_item_of item.now)) }
 {
     match item {
@@ -84,12 +75,7 @@ fn add_record_name(
             made.push(name)?;
             Ok(())
         }
-        NamedItem::Init { .. } => Ok(()),
-        NamedItem::Period { .. } => Ok(()),
-        NamedItem::Signal { .. } => Ok(()),
-        NamedItem::Channel { .. } => Ok(()),
-        NamedItem::Output { .. } => Ok(()),
-        NamedItem::Monitor { .. } => Ok(()),
+        _ => Ok(()),
     }
 }
 
@@ -153,10 +139,7 @@ fn add_source(alloc: Global, made: &mut Items<Source>, item: &NamedItem) -> Resu
             })?;
             Ok(())
         }
-        NamedItem::Record { .. } => Ok(()),
-        NamedItem::Channel { .. } => Ok(()),
-        NamedItem::Output { .. } => Ok(()),
-        NamedItem::Monitor { .. } => Ok(()),
+        _ => Ok(()),
     }
 }
 
@@ -170,11 +153,7 @@ fn sources(alloc: Global, items: &[NamedItem]) -> Result<Items<Source>, NoMemory
     Ok(made)
 }
 
-fn add_channel(
-    alloc: Global,
-    made: &mut Items<Channel>,
-    item: &NamedItem,
-) -> Result<(), NoMemory>
+fn add_channel(alloc: Global, made: &mut Items<Channel>, item: &NamedItem) -> Result<(), NoMemory>
     ensures { OnOk result (map channel_in made.new ≡ map channel_in made.old ++ channel_of (named_item_of item.now)) }
 {
     match item {
@@ -184,12 +163,7 @@ fn add_channel(
             made.push(Channel { name, message })?;
             Ok(())
         }
-        NamedItem::Record { .. } => Ok(()),
-        NamedItem::Init { .. } => Ok(()),
-        NamedItem::Period { .. } => Ok(()),
-        NamedItem::Signal { .. } => Ok(()),
-        NamedItem::Output { .. } => Ok(()),
-        NamedItem::Monitor { .. } => Ok(()),
+        _ => Ok(()),
     }
 }
 
@@ -222,12 +196,7 @@ fn add_output(alloc: Global, made: &mut Items<Output>, item: &NamedItem) -> Resu
             made.push(Output { name, channel })?;
             Ok(())
         }
-        NamedItem::Record { .. } => Ok(()),
-        NamedItem::Init { .. } => Ok(()),
-        NamedItem::Period { .. } => Ok(()),
-        NamedItem::Signal { .. } => Ok(()),
-        NamedItem::Channel { .. } => Ok(()),
-        NamedItem::Monitor { .. } => Ok(()),
+        _ => Ok(()),
     }
 }
 
@@ -241,11 +210,7 @@ fn outputs(alloc: Global, items: &[NamedItem]) -> Result<Items<Output>, NoMemory
     Ok(made)
 }
 
-fn add_state(
-    alloc: Global,
-    made: &mut Items<(Name, Ty)>,
-    part: &NamedPart,
-) -> Result<(), NoMemory>
+fn add_state(alloc: Global, made: &mut Items<(Name, Ty)>, part: &NamedPart) -> Result<(), NoMemory>
     ensures { OnOk result (fields_of made.new ≡ fields_of made.old ++ state_of (named_part_of part.now)) }
 {
     match part {
@@ -269,11 +234,7 @@ fn states(alloc: Global, parts: &[NamedPart]) -> Result<Items<(Name, Ty)>, NoMem
     Ok(made)
 }
 
-fn add_monitor(
-    alloc: Global,
-    made: &mut Items<Monitor>,
-    item: &NamedItem,
-) -> Result<(), NoMemory>
+fn add_monitor(alloc: Global, made: &mut Items<Monitor>, item: &NamedItem) -> Result<(), NoMemory>
     ensures { OnOk result (map monitor_in made.new ≡ map monitor_in made.old ++ monitor_of (named_item_of item.now)) }
 {
     match item {
@@ -283,12 +244,7 @@ fn add_monitor(
             made.push(Monitor { name, states })?;
             Ok(())
         }
-        NamedItem::Record { .. } => Ok(()),
-        NamedItem::Init { .. } => Ok(()),
-        NamedItem::Period { .. } => Ok(()),
-        NamedItem::Signal { .. } => Ok(()),
-        NamedItem::Channel { .. } => Ok(()),
-        NamedItem::Output { .. } => Ok(()),
+        _ => Ok(()),
     }
 }
 
@@ -302,11 +258,7 @@ fn monitors(alloc: Global, items: &[NamedItem]) -> Result<Items<Monitor>, NoMemo
     Ok(made)
 }
 
-fn add_emitter(
-    alloc: Global,
-    made: &mut Items<Emitter>,
-    part: &NamedHpart,
-) -> Result<(), NoMemory>
+fn add_emitter(alloc: Global, made: &mut Items<Emitter>, part: &NamedHpart) -> Result<(), NoMemory>
     ensures { OnOk result (map emitter_in made.new ≡ map emitter_in made.old ++ emitter_of (named_hpart_of part.now)) }
 {
     match part {
