@@ -1,7 +1,7 @@
 -- The first fault of an `if`, by those of its test and of its branches.
-use Rattle.std.proofs.Common.{◌≡◌, ◌⊎◌, ℕ, ◌<◌, ◌≤◌, ◌+◌, inl, inr, List, [], ◌∷◌, ◌++◌, Option, Some, None, Result, Ok, Err, refl, ap, sym, subst, ◌∙◌, arith}
+use Rattle.std.proofs.Common.{◌≡◌, ◌⊎◌, ℕ, ◌<◌, inl, inr, ◌++◌, Option, Some, None, Result, Ok, Err, refl, ap, sym, subst, arith}
 use Rattle.tower_types.specs.declared.scalar.Scalar.TheVariants as is
-use Rattle.tower_types.specs.Ty.{Ty, Fields, scalar}
+use Rattle.tower_types.specs.Ty.{Ty, scalar}
 use Rattle.tower_syntax.specs.declared.named.Target.{Target}
 use Rattle.tower_syntax.specs.RawTree.{Link, RawExpr, RawStmt, branch, RawStmts}
 use Rattle.tower_syntax.specs.Offset.{link_offset, expr_offset}
@@ -10,21 +10,21 @@ use Rattle.tower_syntax.specs.View.{stmts_of}
 use Rattle.arch_types.specs.declared.fault.TypeFault.{TypeFault}
 use Rattle.arch_types.specs.declared.high.High.{High}
 use Rattle.arch_types.specs.Wanted.{exactly, same, misfit}
-use Rattle.arch_types.specs.Offence.{Faults, Child, none_before, Node, offset, IsClean, IsFirst}
+use Rattle.arch_types.specs.Offence.{Faults, none_before, offset, IsClean, IsFirst}
 use Rattle.arch_types.specs.Typing.{Env, Becomes, ExprFaults, wants}
-use Rattle.arch_types.specs.Body.{after_all, expr_child, Breaks, BreaksAll, IsDeep, Deeps, DeepsAll, Offends, height, told}
-use Rattle.arch_types.specs.Order.{Ascends, start_in, AscendsStmt, AscendsAll}
+use Rattle.arch_types.specs.Body.{after_all, expr_child, Breaks, BreaksAll, IsDeep, Deeps, DeepsAll, Offends, height}
+use Rattle.arch_types.specs.Order.{AscendsStmt}
 use Rattle.arch_types.specs.Numbered.{bound_by_all}
 use Rattle.arch_types.specs.Walk.{Known, TypedExpr, and_then, tested, high_expr, earlier, first_high, behind, Walked, AllWalked, with_binders}
 use Rattle.arch_types.specs.Walk as walk
 use Rattle.arch_types.specs.Right.{env_with, Right, IsOrdered, AreOrdered, Told, Knows, RightStmt, RightAll}
 use Rattle.arch_types.proofs.Same.{same_true}
-use Rattle.arch_types.proofs.Nodes.{unless_none, Spans}
+use Rattle.arch_types.proofs.Nodes.{unless_none}
 use Rattle.arch_types.proofs.Typing.{one_expr, sound}
 use Rattle.arch_types.proofs.First.{one_child, one_type}
 use Rattle.arch_types.proofs.Sequence.{first_left, told_both, told_first, told_within, told_deep, first_of_same, told_same}
 use Rattle.arch_types.proofs.DeepRows.{one_clean}
-use Rattle.arch_types.proofs.Within.{expr_begins, list_begins, wants_at, test_row, test_spans, test_ones, all_offends_inside}
+use Rattle.arch_types.proofs.Within.{expr_begins, list_begins, wants_at, test_spans, test_ones, all_offends_inside}
 use Rattle.arch_types.proofs.StmtFirst.{joined_bound, joined_count}
 
 module _ (γ : Known) (has : Target → Ty → Type 0) (k : Knows γ has) (at : ℕ) (c : RawExpr Link) (then_at : ℕ) (a : RawStmts Link) (else_at : ℕ) (b : RawStmts Link) where

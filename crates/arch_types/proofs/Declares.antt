@@ -1,10 +1,10 @@
 -- Each record's fields name the records before it.
-use Rattle.std.proofs.Common.{◌≡◌, ℕ, zero, suc, ◌+◌, ◌<◌, ◌≤◌, ◌^◌, List, [], ◌∷◌, ◌++◌, map, length, take, get_or, All, refl, sym, ap, subst, ◌∙◌, arith, length-append, length-take}
+use Rattle.std.proofs.Common.{◌≡◌, ℕ, zero, suc, ◌+◌, ◌<◌, ◌≤◌, ◌^◌, List, [], ◌∷◌, ◌++◌, map, length, take, get_or, All, sym, ap, subst, arith, length-append, length-take}
 use Rattle.std.proofs.lemmas.List.{length-map}
 use Rattle.std.proofs.lemmas.List.Elements.{All-weaker, All-map}
 use Rattle.tower_types.specs.Ty.{Fields}
 use Rattle.tower_types.specs.Records.{IsTypeAmong}
-use Rattle.tower_syntax.specs.RawTree.{Link, RawField, RawItem, fields, init, period, signal, channel, output, monitor, Raw}
+use Rattle.tower_syntax.specs.RawTree.{Link, RawField, RawItem, fields, init, period, signal, channel, output, monitor}
 use Rattle.tower_syntax.specs.Arch.{Arch}
 use Rattle.arch_types.specs.Typing.{type_of}
 use Rattle.arch_types.specs.Outline.{each, field, record_of}

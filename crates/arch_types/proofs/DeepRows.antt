@@ -1,15 +1,14 @@
 -- The first fault of a statement by its one or two expressions and places, and what is too high in it.
-use Rattle.std.proofs.Common.{◌≡◌, ◌⊎◌, ℕ, ◌<◌, ◌≤◌, inl, inr, List, [], ◌∷◌, Option, Some, None, refl, ap, sym, subst, ◌∙◌, arith}
+use Rattle.std.proofs.Common.{◌≡◌, ◌⊎◌, ℕ, ◌<◌, ◌≤◌, inl, inr, [], ◌∷◌, Some, None, ap, arith}
 use Rattle.tower_types.specs.Ty.{Ty}
 use Rattle.arch_types.specs.declared.fault.TypeFault.{TypeFault}
-use Rattle.arch_types.specs.declared.fault.TypeFault.TheVariants as fault
-use Rattle.arch_types.specs.Offence.{Faults, Child, Test, Row, end, child, HaveTypes, Misses, none_before, Node, offset, IsClean, IsFirst}
+use Rattle.arch_types.specs.Offence.{Faults, Child, Test, Row, end, child, none_before, Node, offset, IsClean, IsFirst}
 use Rattle.arch_types.specs.Body.{told, IsDeep}
 use Rattle.arch_types.specs.Walk.{earlier, first_high, too_high}
 use Rattle.arch_types.specs.Right.{Told}
-use Rattle.arch_types.proofs.Nodes.{Within, Ones, Spans, node_clean, types_clean, none_of_one, none_of_two, absent, inside}
+use Rattle.arch_types.proofs.Nodes.{Ones, Spans, node_clean, types_clean, none_of_one, none_of_two}
 use Rattle.arch_types.proofs.First.{one_child, one_type, two_first, two_second, two_third, two_fourth}
-use Rattle.arch_types.proofs.Sequence.{first_left, told_both, told_first, told_deep}
+use Rattle.arch_types.proofs.Sequence.{told_both, told_first, told_deep}
 
 -- other faults, none of which is this one's equal
 pub beside : (P Q : TypeFault → Type 0) (f : TypeFault) → IsFirst P f → ((g : TypeFault) → Q g → offset f < offset g) → IsFirst (λ g. P g ⊎ Q g) f

@@ -1,5 +1,5 @@
 -- What a callback knows at its beginning is what the relations see there.
-use Rattle.std.proofs.Common.{◌≡◌, ℕ, zero, suc, ◌<◌, ◌≤◌, List, [], ◌∷◌, length, slice_get, Some, refl, sym, ap, ◌∙◌, arith}
+use Rattle.std.proofs.Common.{◌≡◌, ℕ, zero, suc, ◌<◌, [], ◌∷◌, length, slice_get, Some, refl, sym, ◌∙◌, arith}
 use Rattle.std.specs.Option.{option_map}
 use Rattle.std.proofs.lemmas.Option.{same_Some}
 use Rattle.tower_types.specs.Ty.{Ty, Fields}
@@ -13,7 +13,7 @@ use Rattle.arch_types.specs.Outline.{each, Written, emitter_of}
 use Rattle.arch_types.specs.File.{entry, writable_at_entry}
 use Rattle.arch_types.specs.Numbered.{Counts}
 use Rattle.arch_types.specs.Walk.{Known, type_at, known_type, may_write_among}
-use Rattle.arch_types.specs.Right.{IsKnown, Knows, Agrees, IsWithin}
+use Rattle.arch_types.specs.Right.{IsKnown, Agrees, IsWithin}
 use Rattle.arch_types.specs.Turns.{known_in}
 
 state_at : (fs : Fields) (k : ℕ) → k < length fs → option_map (λ f. f.1) (slice_get fs k) ≡ Some (type_at fs k)

@@ -1,8 +1,7 @@
 -- The handlers of a file as they are computed are what it becomes, or give its first fault.
-use Rattle.std.proofs.Common.{◌≡◌, ◌⊎◌, inl, inr, ℕ, zero, suc, ◌<◌, ◌≤◌, ◌+◌, List, [], ◌∷◌, ◌++◌, length, get_or, All, Option, Some, None, Result, Ok, Err, refl, sym, ap, subst, ◌∙◌, arith}
+use Rattle.std.proofs.Common.{◌≡◌, ◌⊎◌, inl, inr, ℕ, zero, suc, ◌<◌, ◌≤◌, List, [], ◌∷◌, ◌++◌, length, get_or, All, Option, Some, None, Result, Ok, Err, refl, sym, ap, subst, ◌∙◌, arith}
 use Rattle.std.specs.Prelude.{Contains}
 use Rattle.std.proofs.lemmas.List.Elements.{All-head, All-tail}
-use Rattle.tower_types.specs.Ty.{Fields}
 use Rattle.tower_syntax.specs.RawTree.{Id, Link, RawHpart, emitter, callback, Raw, RawStmts}
 use Rattle.tower_syntax.specs.View.{stmts_of}
 use Rattle.tower_syntax.specs.Arch.{Arch, Body, Handler}
@@ -17,7 +16,7 @@ use Rattle.arch_types.specs.Outline.{each, outline, with_handlers, Written, hand
 use Rattle.arch_types.specs.File.{entry, IsBody, AreBodies, IsHandler, AreHandlers, IsChecked, Offence, start_of, AscendCallbacks, AscendsFile}
 use Rattle.arch_types.specs.Numbered.{Counts, SeesAll, IsPartOf, IsHandler as IsNumberedHandler, IsNumbered}
 use Rattle.arch_types.specs.Walk.{Known, and_then, deep, AllWalked, walked_all}
-use Rattle.arch_types.specs.Right.{Knows, Agrees, IsWithin, AreOrdered, Told, RightAll}
+use Rattle.arch_types.specs.Right.{AreOrdered, Told, RightAll}
 use Rattle.arch_types.specs.Turns.{in_turn, finished, bodied, known_in, handled}
 use Rattle.arch_types.proofs.Sequence.{first_left, first_right, clean_both, first_of_same}
 use Rattle.arch_types.proofs.Within.{list_begins, all_offends_inside}

@@ -1,5 +1,5 @@
 -- The walk over an expression or place gives its type, or its first fault.
-use Rattle.std.proofs.Common.{◌≡◌, ◌⊎◌, ℕ, ◌<◌, ◌≤◌, ◌+◌, inl, inr, List, [], ◌∷◌, Option, Some, None, Bool, true, false, IsTrue, Result, Ok, Err, refl, ap, sym, subst, ◌∙◌}
+use Rattle.std.proofs.Common.{◌≡◌, ℕ, inl, [], ◌∷◌, Option, Some, None, Bool, true, false, Result, Ok, Err, refl, ap, sym, subst, ◌∙◌}
 use Rattle.std.proofs.lemmas.Bool.{false≢true}
 use Rattle.tower_types.specs.declared.scalar.Scalar.{Scalar}
 use Rattle.tower_types.specs.declared.scalar.Scalar.TheVariants as is
@@ -7,24 +7,24 @@ use Rattle.tower_types.specs.declared.scalar.BinOp.{BinOp}
 use Rattle.tower_types.specs.declared.scalar.BinOp.TheVariants as op
 use Rattle.tower_types.specs.declared.scalar.UnOp.{UnOp}
 use Rattle.tower_types.specs.declared.scalar.UnOp.TheVariants as un_op
-use Rattle.tower_types.specs.Ty.{Ty, Name, scalar, array, rec as record_type}
+use Rattle.tower_types.specs.Ty.{Ty, scalar, array, rec as record_type}
 use Rattle.tower_types.specs.Value.{fits_scalar}
-use Rattle.tower_types.specs.Arithmetic.{applies, applies_one, binary_scalar, is_number}
+use Rattle.tower_types.specs.Arithmetic.{binary_scalar}
 use Rattle.tower_syntax.specs.declared.named.Target.{Target}
 use Rattle.tower_syntax.specs.RawTree.{Id, Link, RawType, RawPlace, root, get, index, RawExpr, truth, read, lit, un, bin, choose, cast}
 use Rattle.tower_syntax.specs.Offset.{link_offset, type_offset, place_offset, expr_offset}
 use Rattle.tower_syntax.specs.Tree as tree
 use Rattle.arch_types.specs.declared.fault.TypeFault.{TypeFault}
 use Rattle.arch_types.specs.declared.fault.TypeFault.TheVariants as fault
-use Rattle.arch_types.specs.Wanted.{Wanted, a_scalar, a_number, an_array, a_record, exactly, fulfils, same, misfit, wanted, wanted_one, unless}
+use Rattle.arch_types.specs.Wanted.{a_scalar, a_number, an_array, exactly, fulfils, same, misfit, wanted, wanted_one, unless}
 use Rattle.arch_types.specs.Offence.{Child, Test, Row, end, child, none_before, Node, IsFirst}
-use Rattle.arch_types.specs.Typing.{Env, Path, with_step, Has, HasPlace, Becomes, BecomesPlace, PlaceFaults, ExprFaults, type_of, field_of, has_field, wants, wants_field, wants_index, like_the_first, type_child}
+use Rattle.arch_types.specs.Typing.{Env, Path, with_step, Becomes, BecomesPlace, type_of, field_of, has_field, wants, wants_field, wants_index, like_the_first, type_child}
 use Rattle.arch_types.specs.Body.{place_child, expr_child}
 use Rattle.arch_types.specs.Order.{AscendsPlace, Ascends}
 use Rattle.arch_types.specs.Walk.{Known, known_type, TypedExpr, TypedPlace, typed, typed_place, scalar_in, and_then, tested, literal, un_row, bin_row, choose_row, cast_row, get_row, index_row, field_found}
 use Rattle.arch_types.specs.Right.{env_with, Uses, UsesPlace, Right, RightPlace}
 use Rattle.arch_types.proofs.Same.{same_true}
-use Rattle.arch_types.proofs.Nodes.{IsOne, Ones, IsSound, Spans, first_child, next_child, in_children, first_miss, next_miss, in_types, unless_none}
+use Rattle.arch_types.proofs.Nodes.{Ones, Spans, first_child, next_child, in_children, first_miss, next_miss, in_types, unless_none}
 use Rattle.arch_types.proofs.Typing.{applies_wanted, applies_wanted_one, get_children, index_children, un_children, bin_children, choose_children, cast_children, get_spans, index_spans, un_spans, bin_spans, choose_spans, cast_spans, type_one, one_place, one_expr, sound, sound_place}
 
 pub scalar_wanted : (o : BinOp) (t : Ty) → fulfils (wanted o) t ≡ true → t ≡ scalar (scalar_in t)

@@ -1,5 +1,5 @@
 -- The law of expressions, for the types that are known.
-use Rattle.std.proofs.Common.{◌≡◌, ◌⊎◌, ℕ, inl, inr, Result, Ok, Err, refl, sym, subst, ◌∙◌}
+use Rattle.std.proofs.Common.{◌≡◌, ◌⊎◌, ℕ, inl, inr, Ok, Err, refl, sym, subst, ◌∙◌}
 use Rattle.tower_types.specs.Ty.{Ty}
 use Rattle.tower_syntax.specs.declared.named.Target.{Target}
 use Rattle.tower_syntax.specs.RawTree.{Link, RawPlace, root, get, index, RawExpr, truth, read, lit, un, bin, choose, cast}

@@ -2,7 +2,7 @@
 use Rattle.std.proofs.Common.{◌≡◌, ℕ, suc, ◌+◌, ◌<◌, ◌≤◌, List, [], ◌∷◌, ◌++◌, map, length, drop, get_or, refl, sym, ap, ◌∙◌, append_assoc, append-nil, add-one, arith, drop-cons}
 use Rattle.std.proofs.lemmas.List.{drop_all}
 use Rattle.tower_syntax.specs.declared.arch.Listener.{Listener}
-use Rattle.tower_syntax.specs.RawTree.{Link, RawPart, state, handler, RawItem, fields, init, period, signal, channel, output, monitor}
+use Rattle.tower_syntax.specs.RawTree.{Link, RawPart, RawItem}
 use Rattle.arch_types.specs.Outline.{part_listeners, handlers_in, listeners}
 
 module _ {R X : Type 0} (raw : R → X) where

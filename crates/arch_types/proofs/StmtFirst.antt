@@ -1,32 +1,29 @@
 -- The walk over statements gives their part of the checked tree with the first that is too high, or their first fault.
-use Rattle.std.proofs.Common.{◌≡◌, ◌⊎◌, ℕ, suc, ◌<◌, ◌≤◌, ◌+◌, inl, inr, List, [], ◌∷◌, ◌++◌, length, Option, Some, None, Bool, true, false, IsTrue, Result, Ok, Err, refl, ap, sym, subst, ◌∙◌, arith, length-append, append-nil, append_assoc}
+use Rattle.std.proofs.Common.{◌≡◌, ℕ, suc, ◌+◌, [], ◌∷◌, ◌++◌, length, Option, Some, None, Bool, true, false, IsTrue, Result, Ok, Err, refl, ap, sym, subst, ◌∙◌, arith, length-append, append-nil, append_assoc}
 use Rattle.tower_types.specs.declared.scalar.Scalar.TheVariants as is
 use Rattle.tower_types.specs.Ty.{Ty, Fields, scalar}
 use Rattle.tower_syntax.specs.declared.named.Target.{Target}
-use Rattle.tower_syntax.specs.RawTree.{Id, Link, RawType, RawPlace, RawExpr, RawStmt, bind, local, set, copy, branch, loop, emit, RawStmts, no_stmts, stmt}
-use Rattle.tower_syntax.specs.Offset.{link_offset, place_offset, expr_offset, stmt_offset}
+use Rattle.tower_syntax.specs.RawTree.{Id, Link, RawType, RawPlace, RawExpr, bind, local, set, copy, loop, emit, RawStmts}
+use Rattle.tower_syntax.specs.Offset.{link_offset, place_offset, expr_offset}
 use Rattle.tower_syntax.specs.Tree as tree
 use Rattle.tower_syntax.specs.View.{stmts_of}
 use Rattle.arch_types.specs.declared.fault.TypeFault.{TypeFault}
 use Rattle.arch_types.specs.declared.fault.TypeFault.TheVariants as fault
-use Rattle.arch_types.specs.declared.high.High.{High}
 use Rattle.arch_types.specs.Wanted.{a_scalar, exactly, fulfils, same, misfit}
-use Rattle.arch_types.specs.Offence.{Faults, Child, none_before, Node, offset, IsClean, IsFirst}
-use Rattle.arch_types.specs.Typing.{Env, Path, Has, Becomes, BecomesPlace, ExprFaults, place_from, type_of, wants, like_the_first}
-use Rattle.arch_types.specs.Body.{with_let, with_local, with_loop, after, after_all, base, emitter_number, message_of, place_child, expr_child, if_writable, wants_writable, wants_writable_scalar, Breaks, BreaksAll, IsDeep, Deeps, DeepsAll, Offends, height, place_height, told}
-use Rattle.arch_types.specs.Order.{AscendsPlace, Ascends, start_in, AscendsStmt, AscendsAll}
-use Rattle.arch_types.specs.Numbered.{bound_by, bound_by_all, SeesStmt, SeesAll}
+use Rattle.arch_types.specs.Offence.{none_before}
+use Rattle.arch_types.specs.Typing.{Env, Has, Becomes, BecomesPlace, place_from, type_of, wants, like_the_first}
+use Rattle.arch_types.specs.Body.{with_loop, base, emitter_number, message_of, place_child, expr_child, if_writable, wants_writable, wants_writable_scalar, DeepsAll, height, place_height}
 use Rattle.arch_types.specs.Walk.{Known, TypedExpr, TypedPlace, and_then, tested, scalar_in, too_high, high_expr, high_place, deep, earlier, first_high, behind, Walked, AllWalked, with_binders, binding, plain, joined, walked, walked_all, typed, typed_place}
 use Rattle.arch_types.specs.Walk as walk
-use Rattle.arch_types.specs.Right.{env_with, Right, RightPlace, IsOrdered, AreOrdered, Told, Knows, Agrees, Ran, RightStmt, RightAll}
+use Rattle.arch_types.specs.Right.{env_with, Right, RightPlace, IsOrdered, AreOrdered, Knows, RightStmt, RightAll}
 use Rattle.arch_types.proofs.Same.{same_true}
-use Rattle.arch_types.proofs.Nodes.{Within, Spans, unless_none}
+use Rattle.arch_types.proofs.Nodes.{unless_none}
 use Rattle.arch_types.proofs.Typing.{one_expr}
-use Rattle.arch_types.proofs.First.{one_child, one_type, two_first, two_second, two_third, two_fourth, any_scalar, right, right_place}
+use Rattle.arch_types.proofs.First.{one_child, one_type, two_first, two_second, two_third, two_fourth, any_scalar}
 use Rattle.arch_types.proofs.Sequence.{told_within}
 use Rattle.arch_types.proofs.DeepRows.{one_offends, one_type_offends, one_clean, one_told, two_offends, two_offends_second, two_offends_third, two_offends_fourth, two_clean, two_told}
-use Rattle.arch_types.proofs.Within.{place_begins, wants_at, like_at, let_row, set_row, copy_row, test_row, emit_row, let_spans, set_spans, copy_spans, emit_spans, let_ones, set_ones, copy_ones, emit_ones}
-use Rattle.arch_types.proofs.Agreed.{still, binds, place_uses, expr_uses, env_is}
+use Rattle.arch_types.proofs.Within.{place_begins, wants_at, like_at, let_spans, set_spans, copy_spans, emit_spans, let_ones, set_ones, copy_ones, emit_ones}
+use Rattle.arch_types.proofs.Agreed.{still, binds}
 
 -- what ran, and what ran behind it
 pub joined_bound : (xs ys zs a b : Fields) → ys ≡ xs ++ a → zs ≡ ys ++ b → zs ≡ xs ++ (a ++ b)

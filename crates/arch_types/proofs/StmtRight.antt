@@ -1,18 +1,16 @@
 -- The walk over a list of statements gives its part of the checked tree, or its first fault.
-use Rattle.std.proofs.Common.{◌≡◌, ◌⊎◌, ℕ, false, ◌<◌, ◌≤◌, ◌+◌, inl, inr, List, [], ◌∷◌, ◌++◌, length, Option, Some, None, Result, Ok, Err, refl, ap, sym, subst, ◌∙◌, arith, length-append, append-nil}
+use Rattle.std.proofs.Common.{◌≡◌, ◌⊎◌, ℕ, false, ◌<◌, ◌≤◌, inl, inr, [], ◌∷◌, ◌++◌, Option, Some, None, Result, Ok, Err, refl, sym, subst, ◌∙◌, arith, append-nil}
 use Rattle.tower_types.specs.declared.scalar.Scalar.TheVariants as is
-use Rattle.tower_types.specs.Ty.{Ty, Fields, scalar}
+use Rattle.tower_types.specs.Ty.{Ty, scalar}
 use Rattle.tower_syntax.specs.declared.named.Target.{Target}
-use Rattle.tower_syntax.specs.RawTree.{Link, RawExpr, RawStmt, bind, local, set, copy, branch, loop, emit, RawStmts, no_stmts, stmt}
-use Rattle.tower_syntax.specs.Offset.{link_offset, place_offset, expr_offset}
-use Rattle.tower_syntax.specs.Tree as tree
+use Rattle.tower_syntax.specs.RawTree.{Link, RawStmt, bind, local, set, copy, branch, loop, emit, RawStmts, no_stmts, stmt}
 use Rattle.tower_syntax.specs.View.{stmts_of}
 use Rattle.arch_types.specs.declared.fault.TypeFault.{TypeFault}
 use Rattle.arch_types.specs.declared.high.High.{High}
-use Rattle.arch_types.specs.Offence.{Faults, offset, IsClean, IsFirst}
+use Rattle.arch_types.specs.Offence.{Faults, offset}
 use Rattle.arch_types.specs.Typing.{Env}
 use Rattle.arch_types.specs.Body.{with_loop, after, after_all, Breaks, BreaksAll, Deeps, DeepsAll, Offends}
-use Rattle.arch_types.specs.Order.{start_in, AscendsStmt, AscendsAll}
+use Rattle.arch_types.specs.Order.{start_in, AscendsAll}
 use Rattle.arch_types.specs.Numbered.{Counts, past, naming, bound_by, bound_by_all, after as seen_after, SeesStmt, SeesAll}
 use Rattle.tower_syntax.specs.Typed.{read_only}
 use Rattle.arch_types.specs.Walk.{Known, and_then, deep, earlier, first_high, Walked, AllWalked, with_binders, binding, joined, walked, walked_all, typed, typed_place}

@@ -1,13 +1,13 @@
 -- A list whose elements are gone through in turn, as far as it is.
-use Rattle.std.proofs.Common.{◌≡◌, ◌⊎◌, inl, inr, ℕ, suc, ◌+◌, ◌<◌, ◌≤◌, List, [], ◌∷◌, ◌++◌, map, length, take, drop, get_or, Result, Ok, Err, refl, sym, ap, subst, ◌∙◌, append_assoc, append-nil, add-one, drop-cons, take-append-drop}
+use Rattle.std.proofs.Common.{◌≡◌, ◌⊎◌, inl, inr, ℕ, ◌+◌, ◌<◌, ◌≤◌, List, [], ◌∷◌, ◌++◌, map, length, take, drop, get_or, Result, Ok, Err, refl, sym, ap, subst, ◌∙◌, append_assoc, append-nil, take-append-drop}
 use Rattle.std.proofs.lemmas.List.{take_all, map-append}
 use Rattle.std.specs.Result.{IsErrAnd, IfErr}
 use Rattle.std.proofs.lemmas.Result.{err_from_is_err_and}
-use Rattle.tower_syntax.specs.RawTree.{Link, RawPart, RawItem, monitor}
+use Rattle.tower_syntax.specs.RawTree.{Link, RawItem}
 use Rattle.tower_syntax.specs.Arch.{Handler}
 use Rattle.arch_types.specs.declared.fault.TypeFault.{TypeFault}
 use Rattle.arch_types.specs.declared.fault.TypeFault.TheVariants as fault
-use Rattle.arch_types.specs.Outline.{each, Written, written_of, handlers_from}
+use Rattle.arch_types.specs.Outline.{each, Written, handlers_from}
 use Rattle.arch_types.specs.Walk.{and_then, Gives}
 use Rattle.arch_types.specs.Turns.{in_turn, put_after, Went, Stops}
 use Rattle.arch_types.proofs.Gathered.{map_take_more, each-append, each-push}

@@ -1,5 +1,5 @@
 -- An expression or place has one type at most, and none where a fault is in it; its faults stand within it.
-use Rattle.std.proofs.Common.{◌≡◌, ◌⊎◌, ℕ, ◌<◌, ◌≤◌, ◌+◌, inl, inr, List, [], ◌∷◌, Option, Some, None, Bool, true, false, IsTrue, refl, ap, sym, subst, ◌∙◌, arith, not}
+use Rattle.std.proofs.Common.{◌≡◌, ℕ, ◌<◌, ◌≤◌, [], ◌∷◌, Option, Some, None, Bool, refl, ap, sym, ◌∙◌, arith, not}
 use Rattle.std.proofs.lemmas.Option.{none-some, same_Some}
 use Rattle.std.proofs.lemmas.Bool.{false≢true}
 use Rattle.tower_types.specs.declared.scalar.Scalar.{Scalar}
@@ -9,21 +9,19 @@ use Rattle.tower_types.specs.declared.scalar.BinOp.TheVariants as op
 use Rattle.tower_types.specs.declared.scalar.UnOp.{UnOp}
 use Rattle.tower_types.specs.declared.scalar.UnOp.TheVariants as un_op
 use Rattle.tower_types.specs.Ty.{Ty, Name, scalar, array, rec as record_type}
-use Rattle.tower_types.specs.Value.{fits_scalar}
 use Rattle.tower_types.specs.Arithmetic.{applies, applies_one, binary_scalar, is_number}
 use Rattle.tower_syntax.specs.declared.named.Target.{Target}
 use Rattle.tower_syntax.specs.RawTree.{Id, Link, RawType, RawPlace, root, get, index, RawExpr, truth, read, lit, un, bin, choose, cast}
 use Rattle.tower_syntax.specs.Offset.{link_offset, type_offset, place_offset, expr_offset}
 use Rattle.arch_types.specs.declared.fault.TypeFault.{TypeFault}
-use Rattle.arch_types.specs.declared.fault.TypeFault.TheVariants as fault
-use Rattle.arch_types.specs.Wanted.{Wanted, a_scalar, a_number, an_array, a_record, exactly, fulfils, same, same_scalar, misfit, wanted, wanted_one}
-use Rattle.arch_types.specs.Offence.{Child, Test, Row, end, child, InSome, HaveTypes, Misses, none_before, Node, offset, IsClean, IsFirst}
-use Rattle.arch_types.specs.Typing.{Env, Path, Has, HasPlace, Becomes, BecomesPlace, PlaceFaults, ExprFaults, type_of, field_of, wants, wants_field, wants_index, like_the_first, has_field, type_child}
+use Rattle.arch_types.specs.Wanted.{Wanted, a_scalar, a_number, an_array, a_record, exactly, fulfils, same_scalar, wanted, wanted_one}
+use Rattle.arch_types.specs.Offence.{Child, Row, end, child, Node, offset}
+use Rattle.arch_types.specs.Typing.{Env, Has, HasPlace, PlaceFaults, ExprFaults, field_of, wants, wants_field, wants_index, like_the_first, has_field, type_child}
 use Rattle.arch_types.specs.Body.{place_child, expr_child}
 use Rattle.arch_types.specs.Order.{AscendsPlace, Ascends}
 use Rattle.arch_types.specs.Walk.{scalar_in}
 use Rattle.arch_types.proofs.Same.{same_refl}
-use Rattle.arch_types.proofs.Nodes.{Within, wider, IsOne, Ones, IsSound, Spans, node_within, node_clean, none_of_one, none_of_two, none_of_three, misfit_within, fits_none, unless_at}
+use Rattle.arch_types.proofs.Nodes.{Within, wider, IsOne, Ones, IsSound, Spans, node_within, node_clean, none_of_one, none_of_two, none_of_three, misfit_within, fits_none}
 
 pub truth_only : (s : Scalar) → same_scalar is.Bool s ≡ not (is_number s)
 truth_only is.Bool = refl

@@ -1,21 +1,19 @@
 -- The faults of a statement stand within it, and a name has one type at most behind it.
-use Rattle.std.proofs.Common.{◌≡◌, ◌⊎◌, ℕ, ◌<◌, ◌≤◌, ◌+◌, inl, inr, List, [], ◌∷◌, Option, Some, None, Bool, true, false, IsTrue, refl, ap, sym, subst, ◌∙◌, arith}
+use Rattle.std.proofs.Common.{◌≡◌, ◌⊎◌, ℕ, ◌<◌, ◌≤◌, ◌+◌, inl, inr, Option, Some, None, Bool, true, false, ap, sym, ◌∙◌, arith}
 use Rattle.std.proofs.lemmas.Option.{none-some, same_Some}
-use Rattle.tower_types.specs.declared.scalar.Scalar.{Scalar}
 use Rattle.tower_types.specs.declared.scalar.Scalar.TheVariants as is
 use Rattle.tower_types.specs.Ty.{Ty, scalar}
 use Rattle.tower_syntax.specs.declared.named.Target.{Target}
 use Rattle.tower_syntax.specs.declared.named.Target.TheVariants as target
 use Rattle.tower_syntax.specs.RawTree.{Link, RawPlace, root, get, index, RawExpr, truth, read, lit, un, bin, choose, cast, RawStmt, bind, local, set, copy, branch, loop, emit, RawStmts, no_stmts, stmt}
-use Rattle.tower_syntax.specs.Offset.{link_offset, type_offset, place_offset, expr_offset, stmt_offset}
+use Rattle.tower_syntax.specs.Offset.{link_offset, place_offset, expr_offset, stmt_offset}
 use Rattle.arch_types.specs.declared.fault.TypeFault.{TypeFault}
-use Rattle.arch_types.specs.declared.fault.TypeFault.TheVariants as fault
-use Rattle.arch_types.specs.Wanted.{a_scalar, exactly, fulfils}
-use Rattle.arch_types.specs.Offence.{Faults, Child, Test, Row, end, child, Node, offset}
-use Rattle.arch_types.specs.Typing.{Env, Has, ExprFaults, wants, like_the_first, type_of}
-use Rattle.arch_types.specs.Body.{with_name, with_let, with_local, with_loop, after, after_all, base, emitter_number, message_of, place_child, expr_child, if_writable, wants_writable, wants_writable_scalar, Breaks, BreaksAll, IsDeep, Deeps, DeepsAll}
+use Rattle.arch_types.specs.Wanted.{a_scalar, exactly}
+use Rattle.arch_types.specs.Offence.{Faults, Child, Row, end, child, offset}
+use Rattle.arch_types.specs.Typing.{Env, wants, like_the_first}
+use Rattle.arch_types.specs.Body.{with_name, with_loop, after, after_all, base, emitter_number, message_of, place_child, expr_child, if_writable, wants_writable, wants_writable_scalar, Breaks, BreaksAll, IsDeep, Deeps, DeepsAll}
 use Rattle.arch_types.specs.Order.{AscendsPlace, Ascends, start_in, AscendsStmt, AscendsAll}
-use Rattle.arch_types.proofs.Nodes.{Within, wider, IsOne, Ones, IsSound, Spans, node_within, misfit_at}
+use Rattle.arch_types.proofs.Nodes.{Within, wider, Ones, Spans, node_within, misfit_at}
 use Rattle.arch_types.proofs.Typing.{one_place, one_expr, sound, sound_place, wants_in, like_in}
 
 -- ---- a name has one type

@@ -1,18 +1,18 @@
 -- A file whose names are numbered, as it is after its names were looked up in a text: each number names something
 -- that exists, and each number that is written is in its range.
-use Rattle.std.specs.Prelude.{◌≡◌, ◌<◌, ◌≤◌, ◌^◌, ◌+◌, ℕ, suc, max, List, [], ◌∷◌, length, map, All, Option, is_some}
+use Rattle.std.specs.Prelude.{◌≡◌, ◌<◌, ◌≤◌, ◌^◌, ◌+◌, ℕ, suc, max, List, [], ◌∷◌, length, All, is_some}
 use Rattle.tower_types.specs.declared.scalar.Scalar.{Scalar}
 use Rattle.tower_types.specs.declared.scalar.Scalar.TheVariants as is
 use Rattle.tower_syntax.specs.declared.named.Target.{Target}
 use Rattle.tower_syntax.specs.declared.named.Target.TheVariants as target
 use Rattle.tower_syntax.specs.declared.arch.SourceKind.TheVariants as kind
-use Rattle.tower_syntax.specs.RawTree.{Id, Link, RawType, word, rec, array, RawPlace, root, get, index, RawExpr, truth, read, lit, un, bin, choose, cast, RawStmt, bind, local, set, copy, branch, loop, emit, RawStmts, no_stmts, stmt, RawField, RawHpart, emitter, callback, RawPart, state, handler, RawItem, fields, init, period, signal, channel, output, monitor, Raw}
+use Rattle.tower_syntax.specs.RawTree.{Link, RawType, word, rec, array, RawPlace, root, get, index, RawExpr, truth, read, lit, un, bin, choose, cast, RawStmt, bind, local, set, copy, branch, loop, emit, RawStmts, no_stmts, stmt, RawHpart, emitter, callback, RawPart, state, handler, RawItem, fields, init, period, signal, channel, output, monitor, Raw}
 use Rattle.tower_syntax.specs.Arch.{Arch}
 use Rattle.tower_syntax.specs.WellNumbered.{has_depth}
 use Rattle.tower_syntax.specs.Typed.{Use, read_only, writable, Names, no_names, with_name, IsInScope}
 use Rattle.tower_syntax.specs.Weights.{states_of}
 use Rattle.arch_types.specs.Body.{height, place_height}
-use Rattle.arch_types.specs.Outline.{each, record_of, outline, Written, handlers_of, emitter_of, callback_of, on_of, handlers_in}
+use Rattle.arch_types.specs.Outline.{each, record_of, outline, Written, handlers_of, emitter_of}
 
 -- ---- types
 

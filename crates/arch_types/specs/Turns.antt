@@ -9,7 +9,7 @@ use Rattle.arch_types.specs.declared.fault.TypeFault.TheVariants as fault
 use Rattle.arch_types.specs.declared.high.High.{High}
 use Rattle.arch_types.specs.Outline.{each, Written, on_of, emitter_of, callback_of, handlers_from}
 use Rattle.arch_types.specs.File.{message_on, messages}
-use Rattle.arch_types.specs.Walk.{Known, and_then, deep, AllWalked, walked_all}
+use Rattle.arch_types.specs.Walk.{Known, and_then, deep, walked_all}
 
 -- each element in turn
 abbrev pub in_turn : {X Y : Type 0} → (X → Result Y TypeFault) → List X → Result (List Y) TypeFault

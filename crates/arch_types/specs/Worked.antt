@@ -5,7 +5,7 @@ use Rattle.tower_types.specs.declared.scalar.BinOp.TheVariants as op
 use Rattle.tower_types.specs.declared.scalar.UnOp.TheVariants.{Neg}
 use Rattle.tower_types.specs.Ty.{scalar}
 use Rattle.tower_syntax.specs.declared.named.Target.TheVariants as target
-use Rattle.tower_syntax.specs.RawTree.{Link, RawPlace, root, get, RawExpr, truth, read, lit, un, bin, RawStmt, bind, set, copy, branch, no_stmts, stmt}
+use Rattle.tower_syntax.specs.RawTree.{Link, RawPlace, root, RawExpr, truth, read, lit, un, bin, RawStmt, set, branch, no_stmts, stmt}
 use Rattle.arch_types.specs.declared.fault.Want.TheVariants as want
 use Rattle.arch_types.specs.declared.fault.TypeFault.{TypeFault}
 use Rattle.arch_types.specs.declared.fault.TypeFault.TheVariants as fault

@@ -14,7 +14,7 @@ use Rattle.arch_types.specs.declared.fault.Want.TheVariants as want
 use Rattle.arch_types.specs.declared.fault.TypeFault.{TypeFault}
 use Rattle.arch_types.specs.declared.fault.TypeFault.TheVariants as fault
 use Rattle.arch_types.specs.Outline.{outline, handlers_of}
-use Rattle.arch_types.specs.Walk.{Known, TypedExpr, typed, Walked, walked}
+use Rattle.arch_types.specs.Walk.{Known, TypedExpr, typed, walked}
 use Rattle.arch_types.specs.Turns.{in_turn, handled}
 use Rattle.arch_types.specs.Worked.{fault_of}
 

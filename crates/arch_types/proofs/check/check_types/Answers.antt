@@ -2,11 +2,11 @@ use Rattle.std.proofs.Common.{◌≡◌, ◌⊎◌, inl, inr, map, Ok, Err, subs
 use Rattle.tower_syntax.specs.NamedView.{named_item_of, named_of}
 use Rattle.tower_syntax.specs.View.{arch_of, handler_of}
 use Rattle.tower_syntax.specs.Typed.{IsTyped}
-use Rattle.arch_types.specs.Outline.{with_handlers, handlers_from}
+use Rattle.arch_types.specs.Outline.{with_handlers}
 use Rattle.arch_types.specs.declared.fault.TypeFault.TheVariants as fault
 use Rattle.arch_types.specs.Offence.{IsFirst}
 use Rattle.arch_types.specs.File.{IsChecked, Offence}
-use Rattle.arch_types.specs.Turns.{in_turn, handled}
+use Rattle.arch_types.specs.Turns.{handled}
 use Rattle.arch_types.proofs.Sound.{well_numbered, typed}
 use Rattle.arch_types.proofs.FileRight.{file_clean, file_checked, file_first}
 use Rattle.arch_types.proofs.Turned.{exit_stops, of_items}

@@ -1,7 +1,5 @@
 use Rattle.std.proofs.Common.{map, ap}
-use Rattle.tower_syntax.specs.NamedView.{named_item_of}
 use Rattle.tower_syntax.specs.View.{channel_of as channel_in}
-use Rattle.arch_types.specs.Outline.{channel_of}
 use Rattle.arch_types.proofs.Gathered.{none_gathered, more_gathered, all_gathered}
 use Rattle.arch_types.proofs.outline.channels.Goals as goal
 

@@ -1,7 +1,5 @@
 use Rattle.std.proofs.Common.{map, ap}
-use Rattle.tower_syntax.specs.NamedView.{named_hpart_of}
 use Rattle.tower_syntax.specs.View.{emitter_of as emitter_in}
-use Rattle.arch_types.specs.Outline.{emitter_of}
 use Rattle.arch_types.proofs.Gathered.{none_gathered, more_gathered, all_gathered}
 use Rattle.arch_types.proofs.outline.emitters.Goals as goal
 

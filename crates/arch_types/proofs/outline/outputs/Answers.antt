@@ -1,7 +1,5 @@
 use Rattle.std.proofs.Common.{map, ap}
-use Rattle.tower_syntax.specs.NamedView.{named_item_of}
 use Rattle.tower_syntax.specs.View.{output_of as output_in}
-use Rattle.arch_types.specs.Outline.{output_of}
 use Rattle.arch_types.proofs.Gathered.{none_gathered, more_gathered, all_gathered}
 use Rattle.arch_types.proofs.outline.outputs.Goals as goal
 

@@ -1,7 +1,5 @@
-use Rattle.std.proofs.Common.{map, ap, [], ◌∷◌, ◌∙◌}
-use Rattle.tower_syntax.specs.NamedView.{named_field_of}
+use Rattle.std.proofs.Common.{ap, ◌∙◌}
 use Rattle.tower_types.specs.View.{fields_of}
-use Rattle.arch_types.specs.Outline.{field}
 use Rattle.arch_types.proofs.Gathered.{none_gathered, more_gathered, all_gathered, each_one}
 use Rattle.arch_types.proofs.outline.record_fields.Goals as goal
 

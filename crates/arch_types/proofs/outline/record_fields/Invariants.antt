@@ -1,4 +1,4 @@
-use Rattle.std.proofs.Common.{List, [], ◌∷◌, map, take}
+use Rattle.std.proofs.Common.{[], ◌∷◌, take}
 use Rattle.tower_syntax.specs.NamedView.{named_field_of}
 use Rattle.tower_types.specs.View.{fields_of}
 use Rattle.arch_types.specs.Outline.{field}

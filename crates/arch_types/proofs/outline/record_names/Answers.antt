@@ -1,6 +1,3 @@
-use Rattle.std.proofs.Common.{map, ap}
-use Rattle.tower_syntax.specs.NamedView.{named_item_of}
-use Rattle.arch_types.specs.Outline.{record_name_of}
 use Rattle.arch_types.proofs.Gathered.{none_gathered, more_gathered, all_gathered}
 use Rattle.arch_types.proofs.outline.record_names.Goals as goal
 

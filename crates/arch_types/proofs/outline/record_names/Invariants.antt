@@ -1,4 +1,4 @@
-use Rattle.std.proofs.Common.{List, [], ◌∷◌, map, take}
+use Rattle.std.proofs.Common.{[], take}
 use Rattle.tower_syntax.specs.NamedView.{named_item_of}
 use Rattle.arch_types.specs.Outline.{record_name_of}
 use Rattle.arch_types.proofs.Gathered.{Gathered}

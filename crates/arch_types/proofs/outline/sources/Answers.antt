@@ -1,7 +1,5 @@
 use Rattle.std.proofs.Common.{map, ap}
-use Rattle.tower_syntax.specs.NamedView.{named_item_of}
 use Rattle.tower_syntax.specs.View.{source_of as source_in}
-use Rattle.arch_types.specs.Outline.{source_of}
 use Rattle.arch_types.proofs.Gathered.{none_gathered, more_gathered, all_gathered}
 use Rattle.arch_types.proofs.outline.sources.Goals as goal
 

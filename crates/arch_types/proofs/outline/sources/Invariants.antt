@@ -1,4 +1,4 @@
-use Rattle.std.proofs.Common.{List, [], ◌∷◌, map, take}
+use Rattle.std.proofs.Common.{[], map, take}
 use Rattle.tower_syntax.specs.NamedView.{named_item_of}
 use Rattle.tower_syntax.specs.View.{source_of as source_in}
 use Rattle.arch_types.specs.Outline.{source_of}
