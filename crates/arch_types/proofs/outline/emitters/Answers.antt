@@ -1,0 +1,13 @@
+use Rattle.std.proofs.Common.{map, ap}
+use Rattle.tower_syntax.specs.View.{emitter_of as emitter_in}
+use Rattle.arch_types.proofs.Gathered.{none_gathered, more_gathered, all_gathered}
+use Rattle.arch_types.proofs.outline.emitters.Goals as goal
+
+pub loop-part-init : goal.loop-part-init
+loop-part-init c = none_gathered _ _ _ _ (ap (map emitter_in) c.new-made.ensures)
+
+pub loop-part-preserved : goal.loop-part-preserved
+loop-part-preserved c = more_gathered _ _ _ _ _ _ _ _ c.part-item.is c.loop-part-test.true c.loop-part.invariant c.in_ok-add_emitter.ensures
+
+pub returns : goal.returns
+returns c = all_gathered _ _ _ _ _ _ c.loop-part-test.false c.loop-part.invariant

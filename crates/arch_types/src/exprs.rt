@@ -1,0 +1,110 @@
+//! Places and expressions with their types.
+ghost use Rattle.std.specs.Prelude.{◌≡◌};
+ghost use Rattle.tower_syntax.specs.NamedView.{named_place_of, named_expr_of};
+ghost use Rattle.arch_types.specs.Walk.{Gives, typed_place, typed};
+ghost use Rattle.arch_types.specs.Seen.{known, expr_in, place_in};
+
+use crate::fault::TypeFault;
+use crate::rows::{
+    TypedExpr, TypedPlace, bin_row, cast_row, choose_row, get_row, index_row, literal, read_row,
+    un_row,
+};
+use crate::scope::{Bound, Scope, name_type, root_at, type_of};
+use sqlite_items::Items;
+use std::alloc::Global;
+use tower_syntax::{ArchParts, Expr, NamedExpr, NamedPlace};
+use tower_types::{Scalar, Ty};
+
+#[cycle(exprs)]
+pub fn check_place(
+    alloc: Global,
+    system: &ArchParts,
+    scope: &Scope,
+    bound: &Bound,
+    place: &NamedPlace,
+) -> Result<TypedPlace, TypeFault>
+    ensures { Gives place_in (typed_place (known system.now scope.now bound.now) (named_place_of place.now)) result }
+{
+    let names = system.record_names.as_slice();
+    match place {
+        NamedPlace::Root(link) => {
+            let ty = name_type(alloc, system, scope, bound, link.target)?;
+            let root = root_at(link.target);
+            let steps = Items::new(alloc);
+            Ok(TypedPlace { root, steps, ty })
+        }
+        NamedPlace::Get { base, field, .. } => {
+            let whole = check_place(alloc, system, scope, bound, base.get())?;
+            let part = get_row(alloc, names, &system.records, base.get().at(), whole, field)?;
+            Ok(part)
+        }
+        NamedPlace::At { base, index, .. } => {
+            let whole = check_place(alloc, system, scope, bound, base.get())?;
+            let number = check_expr(alloc, system, scope, bound, index.get())?;
+            let part = index_row(
+                alloc,
+                names,
+                base.get().at(),
+                whole,
+                index.get().at(),
+                number,
+            )?;
+            Ok(part)
+        }
+    }
+}
+
+#[cycle(exprs)]
+pub fn check_expr(
+    alloc: Global,
+    system: &ArchParts,
+    scope: &Scope,
+    bound: &Bound,
+    expr: &NamedExpr,
+) -> Result<TypedExpr, TypeFault>
+    ensures { Gives expr_in (typed (known system.now scope.now bound.now) (named_expr_of expr.now)) result }
+{
+    let names = system.record_names.as_slice();
+    match expr {
+        NamedExpr::Truth { yes, .. } => Ok(TypedExpr {
+            tree: Expr::Lit(Scalar::Bool, i128::from(*yes)),
+            ty: Ty::Scalar(Scalar::Bool),
+        }),
+        NamedExpr::Read(place) => {
+            let read = check_place(alloc, system, scope, bound, place)?;
+            let made = read_row(read);
+            Ok(made)
+        }
+        NamedExpr::Lit { at, scalar, value } => {
+            let made = literal(*at, *scalar, *value)?;
+            Ok(made)
+        }
+        NamedExpr::Un { op, a, .. } => {
+            let x = check_expr(alloc, system, scope, bound, a.get())?;
+            let made = un_row(alloc, names, *op, a.get().at(), x)?;
+            Ok(made)
+        }
+        NamedExpr::Bin { op, a, b, .. } => {
+            let x = check_expr(alloc, system, scope, bound, a.get())?;
+            let y = check_expr(alloc, system, scope, bound, b.get())?;
+            let made = bin_row(alloc, names, *op, a.get().at(), x, b.get().at(), y)?;
+            Ok(made)
+        }
+        NamedExpr::Cond { test, yes, no, .. } => {
+            let w = check_expr(alloc, system, scope, bound, test.get())?;
+            let x = check_expr(alloc, system, scope, bound, yes.get())?;
+            let y = check_expr(alloc, system, scope, bound, no.get())?;
+            let w = (test.get().at(), w);
+            let x = (yes.get().at(), x);
+            let y = (no.get().at(), y);
+            let made = choose_row(alloc, names, w, x, y)?;
+            Ok(made)
+        }
+        NamedExpr::Cast { ty, a, .. } => {
+            let to = type_of(alloc, ty)?;
+            let x = check_expr(alloc, system, scope, bound, a.get())?;
+            let made = cast_row(alloc, names, ty.at(), to, a.get().at(), x)?;
+            Ok(made)
+        }
+    }
+}

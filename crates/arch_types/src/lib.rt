@@ -1,0 +1,32 @@
+//! The types of a file: the checked tree, or the first fault.
+#![tactic(auto)]
+
+mod check;
+mod exprs;
+mod fault;
+mod heights;
+mod high;
+mod laws;
+mod listeners;
+mod outline;
+mod rows;
+mod scope;
+mod stmts;
+#[cfg(test)]
+mod tests;
+mod text;
+mod wanted;
+
+pub use check::check_types;
+pub use exprs::{check_expr, check_place};
+pub use fault::{TypeFault, Want};
+pub use heights::{height, place_height};
+pub use high::High;
+pub use laws::{
+    checked_law, scalars_law, shallow_law, trees_are_determined, type_expr, worked_file,
+    worked_numbers, worked_table, worked_types,
+};
+pub use rows::{TypedExpr, TypedPlace};
+pub use scope::{Bound, Scope};
+pub use stmts::{AllChecked, Checked, check_stmts};
+pub use text::type_text;
