@@ -4,3 +4,5 @@ pub mod Circuit
 pub mod Worked
 pub mod Ranked
 pub mod Settled
+pub mod Over
+pub mod Chain

@@ -2,16 +2,24 @@
 //! may emit, and how much memory a system needs.
 #![tactic(auto)]
 
+mod bounds;
 mod circuit;
+mod delivery;
 mod counting;
+mod instructions;
 pub mod laws;
 mod listening;
+mod longest;
 mod reach;
 mod settled;
 mod size;
 
+pub use bounds::{Over, first_over};
 pub use circuit::{CycleFound, cycle};
+pub use delivery::costs;
 pub use counting::most;
+pub use instructions::code;
 pub use listening::subscribers;
+pub use longest::chain;
 pub use reach::reached;
 pub use size::memory;
