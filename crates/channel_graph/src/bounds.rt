@@ -1,7 +1,7 @@
 //! Emitters on which one message may put more than their bound. None of it takes memory.
 
-ghost use Rattle.std.specs.Prelude.{◌≡◌, ◌<◌, length, MatchOption};
-ghost use Rattle.channel_graph.specs.Over.{IsOver, NoneOver, IsFirstOver};
+ghost use Rattle.std.specs.Prelude.{◌<◌, ℕ, length, MatchOption};
+ghost use Rattle.channel_graph.specs.Over.{IsOver, NoneOver, IsFirstOver, IsFirstOverOf};
 
 use crate::counting::most;
 use tower_syntax::Arch;
@@ -15,20 +15,32 @@ pub struct Over {
     pub most: u64,
 }
 
+/// The first emitter of handler `h` that is over its bound.
+fn over_of(arch: &Arch, h: u32) -> Option<Over>
+    requires { h < length arch.now.handlers }
+    ensures { MatchOption result ((e : ℕ) → IsOver arch.now h e → ⊥) (IsFirstOverOf arch.now h) }
+{
+    for (e, emitter) in arch.handler(h).emitters.as_slice().iter().enumerate() {
+        let count = most(arch, h, e as u32);
+        if count > u64::from(emitter.bound) {
+            return Some(Over {
+                handler: h,
+                emitter: e as u32,
+                most: count,
+            });
+        }
+    }
+    None
+}
+
 /// The first emitter in file order that is over its bound. It takes no memory.
 pub fn first_over(arch: &Arch) -> Option<Over>
     ensures { MatchOption result (NoneOver arch.now) (IsFirstOver arch.now) }
 {
     for h in 0..arch.handlers().len() {
-        let handler = h as u32;
-        let count = arch.handler(handler).emitters.len();
-        for e in 0..count {
-            let emitter = e as u32;
-            let most = most(arch, handler, emitter);
-            let bound = arch.handler(handler).emitters.as_slice()[e].bound;
-            if most > u64::from(bound) {
-                return Some(Over { handler, emitter, most });
-            }
+        let found = over_of(arch, h as u32);
+        if found.is_some() {
+            return found;
         }
     }
     None
