@@ -13,3 +13,4 @@ pub mod Rounds
 pub mod Sized
 pub mod Acyclic
 pub mod Peeled
+pub mod Weighed

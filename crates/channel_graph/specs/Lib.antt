@@ -6,3 +6,7 @@ pub mod Ranked
 pub mod Settled
 pub mod Over
 pub mod Chain
+pub mod Stepped
+pub mod Site
+pub mod Scoped
+pub mod Counting

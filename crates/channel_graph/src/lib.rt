@@ -11,8 +11,12 @@ pub mod laws;
 mod listening;
 mod longest;
 mod reach;
+mod scope;
+mod section;
 mod settled;
+mod shapes;
 mod size;
+mod weight;
 
 pub use bounds::{Over, first_over};
 pub use circuit::{CycleFound, cycle};
