@@ -14,3 +14,5 @@ pub mod Sized
 pub mod Acyclic
 pub mod Peeled
 pub mod Weighed
+pub mod Looked
+pub mod Shaped
