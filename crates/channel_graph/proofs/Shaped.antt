@@ -1,21 +1,26 @@
 -- The shapes of places, step by step.
-use Rattle.std.proofs.Common.{◌≡◌, ◌∙◌, ℕ, ◌+◌, ◌<◌, ◌≤◌, List, [], ◌∷◌, ◌++◌, length, map, take, drop, get_or, arith, refl, ap, sym, subst}
+use Rattle.std.proofs.Common.{◌≡◌, ◌∙◌, ℕ, ◌+◌, ◌<◌, ◌≤◌, List, [], ◌∷◌, ◌++◌, length, map, take, drop, get_or, slice_get, Some, All, arith, refl, ap, sym, subst}
+use Rattle.std.proofs.lemmas.Option.{get_or_from_slice_get, slice_get_within, slice_get-get_or}
 use Rattle.std.proofs.lemmas.List.{take_more, take-append-drop}
 use Rattle.tower_types.specs.declared.scalar.Scalar.{Scalar}
 use Rattle.tower_types.specs.declared.ty.Ty.{Ty as TyValue}
 use Rattle.tower_types.specs.declared.ty.Ty.TheVariants as types
-use Rattle.tower_types.specs.Ty.{Name, Shape, one, many, all, Shapes, no_shapes, rec, table_of, shape_of_fields}
+use Rattle.tower_types.specs.Ty.{Name, Fields, NamesBelow, Shape, one, many, all, Shapes, no_shapes, shapes_of, shape_in, array, rec, table_of, shape_of_fields}
+use Rattle.tower_types.specs.Records.{AreOrdered}
+use Rattle.tower_types.proofs.Shapes.{shape_of-rec}
 use Rattle.tower_types.specs.View.{ty_of, fields_of}
 use Rattle.tower_types.proofs.Seen.{ty_of-Scalar, ty_of-Array, ty_of-Rec}
 use Rattle.tower_syntax.specs.declared.body.PlaceStep.TheVariants as steps
 use Rattle.tower_syntax.specs.declared.body.Expr.{Expr as ExprValue}
 use Rattle.tower_syntax.specs.Arch.{Arch}
 use Rattle.tower_syntax.specs.declared.body.Expr.TheOpen.{PlaceStep-F}
-use Rattle.tower_syntax.specs.declared.body.Expr.TheFolds.{fold_out-PlaceStep}
+use Rattle.tower_syntax.specs.declared.body.Expr.TheFolds.{fold_out-PlaceStep, fold_out-Place}
+use Rattle.tower_syntax.specs.declared.body.Place.{Place as PlaceValue}
 use Rattle.tower_syntax.specs.declared.body.PlaceStep.{PlaceStep as StepValue}
 use Rattle.tower_syntax.specs.Tree.{Expr, Place, Steps, no_steps, field, at}
-use Rattle.tower_syntax.specs.View.{Step, steps_of, expr_step, step_step, place_step}
-use Rattle.tower_syntax.specs.Weights.{no_shape, shape_at, field_shape, field_shapes, element_shape, steps_shape}
+use Rattle.tower_syntax.specs.View.{Step, steps_of, place_of, expr_step, step_step, place_step}
+use Rattle.tower_syntax.specs.Weights.{Scope, root_shape, place_shape, no_shape, shape_at, field_shape, field_shapes, element_shape, steps_shape}
+use Rattle.tower_syntax.specs.WellNumbered.{IsNumberedType, AreNumberedFields}
 use Rattle.channel_graph.specs.Stepped.{step_of}
 use Rattle.channel_graph.specs.Scoped.{shape_by, part_shape}
 use Rattle.channel_graph.proofs.Weighed.{onto, onto-none, onto-push, step_of-Field, step_of-At}
@@ -107,3 +112,25 @@ part_element_record arch step ty e r ss is_at is_rec shape =
     ap (λ y. part_shape y (shape_by arch (ty_of ty))) is_at
     ∙ ap (λ (s : Step). steps_shape (shape_by arch (ty_of ty)) (s no_steps)) (step_of-At e)
     ∙ ap element_shape (ap (λ t. shape_by arch (ty_of t)) is_rec ∙ ap (shape_by arch) (ty_of-Rec r) ∙ shape)
+
+-- a record that exists has the shape of its fields
+pub record_is_all : (arch : Arch) (ty : TyValue) (r : ℕ) → AreOrdered arch.records → NamesBelow (length arch.records) (ty_of ty) → ty ≡ types.Rec r → (ss : Shapes) × (shape_by arch (rec r) ≡ all ss)
+record_is_all arch ty r ordered below is_rec =
+    let inside : r < length arch.records = subst (NamesBelow (length arch.records)) (ap ty_of is_rec ∙ ty_of-Rec r) below in
+    let fields = get_or arch.records r [] in
+    (shapes_of (map (λ f. shape_in (table_of arch.records) f.1) fields), shape_of-rec arch.records r fields ordered (slice_get-get_or arch.records r [] inside))
+
+-- a type of an array's elements
+pub element_numbered : (n : ℕ) (ty : TyValue) (len : ℕ) (t : TyValue) → IsNumberedType n (ty_of ty) → ty ≡ types.Array len t → IsNumberedType n (ty_of t)
+element_numbered n ty len t numbered is_array =
+    let whole : IsNumberedType n (array len (ty_of t)) = subst (IsNumberedType n) (ap ty_of is_array ∙ ty_of-Array len t) numbered in
+    (whole.0, omega (arith, whole.1))
+
+-- the fields of a record that exists
+pub fields_numbered : (arch : Arch) (r : ℕ) (fields : Fields) → All (AreNumberedFields (length arch.records)) arch.records → slice_get arch.records r ≡ Some fields → AreNumberedFields (length arch.records) fields
+fields_numbered arch r fields each found =
+    subst (AreNumberedFields (length arch.records)) (get_or_from_slice_get arch.records r fields [] found) (each r [] (slice_get_within arch.records r fields found))
+
+-- the shape of a place, by its steps
+pub place_shape-steps : (scope : Scope) (p : PlaceValue) → place_shape scope (place_of p) ≡ steps_shape (root_shape scope p.root) (steps_of (map step_of p.steps))
+place_shape-steps scope p = ap (place_shape scope) (fold_out-Place Expr Step Place expr_step step_step place_step p)

@@ -28,11 +28,11 @@ abbrev pub onto : List Step → Steps → Steps
 onto [] rest = rest
 onto (s ∷ ss) rest = s (onto ss rest)
 
-onto-none : (ss : List Step) → steps_of ss ≡ onto ss no_steps
+pub onto-none : (ss : List Step) → steps_of ss ≡ onto ss no_steps
 onto-none [] = refl
 onto-none (s ∷ ss) = ap s (onto-none ss)
 
-onto-push : (xs : List StepValue) (y : StepValue) (rest : Steps) → onto (map step_of (xs ++ y ∷ [])) rest ≡ onto (map step_of xs) (step_of y rest)
+pub onto-push : (xs : List StepValue) (y : StepValue) (rest : Steps) → onto (map step_of (xs ++ y ∷ [])) rest ≡ onto (map step_of xs) (step_of y rest)
 onto-push [] y rest = refl
 onto-push (x ∷ xs) y rest = ap (step_of x) (onto-push xs y rest)
 

@@ -22,9 +22,10 @@ fn part_type<'a>(arch: &'a Arch, ty: &'a Ty, step: &PlaceStep) -> Option<&'a Ty>
         (part_shape step.now (shape_by arch.now (ty_of ty.now)) ≡ no_shape)
         (λ t. HasShape arch.now (part_shape step.now (shape_by arch.now (ty_of ty.now))) (ty_of t.now)) }
 {
+    let records = arch.records();
     match step {
         PlaceStep::Field(k) => match ty {
-            Ty::Rec(r) => match arch.records().fields(*r).get(*k as usize) {
+            Ty::Rec(r) => match records.fields(*r).get(*k as usize) {
                 Some((_, field)) => Some(field),
                 None => None,
             },
