@@ -16,3 +16,5 @@ pub mod Peeled
 pub mod Weighed
 pub mod Looked
 pub mod Shaped
+pub mod Timed
+pub mod Ones

@@ -10,3 +10,5 @@ pub mod Stepped
 pub mod Site
 pub mod Scoped
 pub mod Counting
+pub mod Table
+pub mod Costed

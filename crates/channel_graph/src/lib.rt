@@ -3,6 +3,7 @@
 #![tactic(auto)]
 
 mod bounds;
+mod channels;
 mod circuit;
 mod delivery;
 mod counting;

@@ -2,12 +2,14 @@
 
 ghost use Rattle.std.specs.Prelude.{◌≡◌, ◌+◌, ℕ};
 ghost use Rattle.tower_types.specs.Ty.{Shape, words};
+ghost use Rattle.tower_types.specs.View.{ty_of};
 ghost use Rattle.tower_types.specs.Records.{saturated};
+ghost use Rattle.tower_syntax.specs.Arch.{Arch as System};
 ghost use Rattle.tower_syntax.specs.View.{expr_of, stmt_of, all_stmts_of, handler_of};
 ghost use Rattle.tower_syntax.specs.Weights.{move, moved_weight, shape_at, stmt_weight, stmts_weight, bodies_weight, section_by};
 ghost use Rattle.tower_syntax.specs.WellNumbered.{IsNumberedHandler};
 ghost use Rattle.channel_graph.specs.Site.{scope_at};
-ghost use Rattle.channel_graph.specs.Scoped.{is_one};
+ghost use Rattle.channel_graph.specs.Scoped.{is_one, shape_by};
 ghost use Rattle.channel_graph.specs.Counting.{counting_of};
 
 use crate::scope::Scope;
@@ -56,6 +58,17 @@ pub(crate) fn move_weight(words: u64) -> u64
     words.saturating_mul(24).saturating_add(40)
 }
 
+/// Whether a type is a scalar.
+fn is_scalar(ty: &Ty) -> bool
+    ensures { (arch : System) → result ≡ is_one (shape_by arch (ty_of ty.now)) }
+{
+    match ty {
+        Ty::Scalar(_) => true,
+        Ty::Array(_, _) => false,
+        Ty::Rec(_) => false,
+    }
+}
+
 /// What it weighs to evaluate an expression that is moved: of a value that is no scalar only the place counts.
 fn moved_weight(is_scalar: bool, e: &Expr) -> u64
     ensures { (s : Shape) → is_scalar ≡ is_one s → result ≡ saturated (moved_weight s (expr_of e.now)) }
@@ -71,11 +84,13 @@ fn emit_weight(scope: &Scope<'_>, k: u32, e: &Expr) -> u64
     ensures { result ≡ saturated (moved_weight (shape_at (scope_at scope.now).emitters k) (expr_of e.now)
         + move (words (shape_at (scope_at scope.now).emitters k))) }
 {
-    let (is_scalar, words) = match scope.emitter_type(k) {
-        Some(ty) => (matches!(ty, Ty::Scalar(_)), type_words(scope.arch, ty)),
-        None => (false, 0),
-    };
-    moved_weight(is_scalar, e).saturating_add(move_weight(words))
+    match scope.emitter_type(k) {
+        Some(ty) => {
+            let words = type_words(scope.arch, ty);
+            moved_weight(is_scalar(ty), e).saturating_add(move_weight(words))
+        }
+        None => moved_weight(false, e).saturating_add(move_weight(0)),
+    }
 }
 
 /// What the statements weigh.

@@ -1,0 +1,30 @@
+-- Weights of handlers and channels in lists, each cut at the limit.
+use Rattle.std.specs.Prelude.{ℕ, ◌+◌, ◌<◌, ◌≡◌, List, sum, map, filter, length, slice_index_or}
+use Rattle.tower_types.specs.Records.{saturated}
+use Rattle.tower_syntax.specs.declared.arch.On.{On}
+use Rattle.tower_syntax.specs.declared.arch.On.TheVariants as on
+use Rattle.tower_syntax.specs.declared.arch.Listener.{Listener}
+use Rattle.tower_syntax.specs.Arch.{Arch}
+use Rattle.tower_syntax.specs.Graph.{handler, hears, subs}
+use Rattle.tower_syntax.specs.Weights.{move, message_words, section, emitter_weight, subscribers_weight}
+
+-- the list has f of each of the first n numbers
+pub record IsTable (n : ℕ) (f : ℕ → ℕ) (xs : List ℕ) : Type 0 where
+  pub each : length xs ≡ n
+  pub has : (k : ℕ) → k < n → slice_index_or xs k 0 ≡ saturated (f k)
+
+-- to move a message of a channel
+abbrev pub channel_move : Arch → ℕ → ℕ
+channel_move arch c = move (message_words arch (on.Channel c))
+
+-- to deliver one message to each of its subscribers among these, where a handler costs as said
+abbrev pub weight_among : Arch → (ℕ → ℕ) → List Listener → On → ℕ
+weight_among arch f ls o = subscribers_weight f (message_words arch o) (filter (hears arch o) ls)
+
+-- to deliver one message of a channel
+abbrev pub channel_weight : Arch → (ℕ → ℕ) → ℕ → ℕ
+channel_weight arch f c = weight_among arch f arch.listeners (on.Channel c)
+
+-- a handler with all that follows through one link, where each that it leads to costs as said
+abbrev pub further : Arch → (ℕ → ℕ) → ℕ → ℕ
+further arch f h = section arch (handler arch h) + sum (map (emitter_weight arch f) (handler arch h).emitters)
