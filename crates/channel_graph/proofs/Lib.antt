@@ -18,3 +18,5 @@ pub mod Looked
 pub mod Shaped
 pub mod Timed
 pub mod Ones
+pub mod Tables
+pub mod Delivered

@@ -25,6 +25,9 @@ weight_among arch f ls o = subscribers_weight f (message_words arch o) (filter (
 abbrev pub channel_weight : Arch → (ℕ → ℕ) → ℕ → ℕ
 channel_weight arch f c = weight_among arch f arch.listeners (on.Channel c)
 
+abbrev pub section_of : Arch → ℕ → ℕ
+section_of arch h = section arch (handler arch h)
+
 -- a handler with all that follows through one link, where each that it leads to costs as said
 abbrev pub further : Arch → (ℕ → ℕ) → ℕ → ℕ
-further arch f h = section arch (handler arch h) + sum (map (emitter_weight arch f) (handler arch h).emitters)
+further arch f h = section_of arch h + sum (map (emitter_weight arch f) (handler arch h).emitters)

@@ -53,7 +53,8 @@ fn add_subscriber(
     requires costs { length costs.now ≡ length arch.now.handlers }
     requires exists { Exists arch.now listener }
     requires numbered { IsNumberedOn arch.now (attached arch.now listener) }
-    ensures { Joins arch.now costs.now listener totals.old totals.new }
+    ensures each { length totals.new ≡ length totals.old }
+    ensures joins { Joins arch.now costs.now listener totals.old totals.new }
 {
     if let On::Channel(c) = attachment(arch, listener) {
         let more = moves[c as usize].saturating_add(cost_of(costs, listener));
