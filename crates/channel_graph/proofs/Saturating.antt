@@ -26,3 +26,10 @@ saturated-turns turns n body turn all out b t a o =
     let once : turn ≡ min (2 ^ 64 - 1) (n + 16) = omega arith in
     let product : min (2 ^ 64 - 1) (turn * turns) ≡ min (2 ^ 64 - 1) (turns * (n + 16)) = ap (λ x. min (2 ^ 64 - 1) (x * turns)) once ∙ min-mul (2 ^ 64 - 1) (n + 16) turns in
     omega (arith, product, a, o)
+
+-- so many messages, each with 32 more, and 32 more at the end
+pub saturated-held : (bound n total message all out : ℕ) → total ≡ saturated n → message ≡ min (total + 32) (2 ^ 64 - 1) → all ≡ min (message * bound) (2 ^ 64 - 1) → out ≡ min (all + 32) (2 ^ 64 - 1) → out ≡ saturated (32 + bound * (32 + n))
+saturated-held bound n total message all out t m a o =
+    let once : message ≡ min (2 ^ 64 - 1) (32 + n) = omega arith in
+    let product : min (2 ^ 64 - 1) (message * bound) ≡ min (2 ^ 64 - 1) (bound * (32 + n)) = ap (λ x. min (2 ^ 64 - 1) (x * bound)) once ∙ min-mul (2 ^ 64 - 1) (32 + n) bound in
+    omega (arith, product, a, o)

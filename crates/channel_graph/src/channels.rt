@@ -72,7 +72,8 @@ pub(crate) fn channel_weights(
 ) -> Result<Items<u64>, NoMemory>
     requires moves { IsTable (length arch.now.channels) (channel_move arch.now) moves.now }
     requires costs { length costs.now ≡ length arch.now.handlers }
-    ensures { IfOk result (λ totals. (f : ℕ → ℕ) → IsTable (length arch.now.handlers) f costs.now
+    ensures each { IfOk result (λ totals. length totals ≡ length arch.now.channels) }
+    ensures weights { IfOk result (λ totals. (f : ℕ → ℕ) → IsTable (length arch.now.handlers) f costs.now
         → IsTable (length arch.now.channels) (channel_weight arch.now f) totals) }
 {
     let mut totals = Items::from_vec(vec![in alloc; 0u64; arch.channels().len()]?);

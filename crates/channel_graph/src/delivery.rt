@@ -74,7 +74,7 @@ fn deliveries(alloc: Global, arch: &Arch) -> Result<Items<u64>, NoMemory>
     let moves = moves(alloc, arch)?;
     let sections = sections(alloc, arch)?;
     let mut costs = Items::from_slice(alloc, sections.as_slice())?;
-    for _n in 0..arch.handlers().len() {
+    for _links in 0..arch.handlers().len() {
         let after = round(
             alloc,
             arch,

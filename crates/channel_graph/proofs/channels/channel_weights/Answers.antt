@@ -25,8 +25,8 @@ loop-listener-preserved c =
       λ f table. subst (λ (ls : List Listener). IsTable (length c.args.arch.now.channels) (λ d. weight_among c.args.arch.now f ls (on.Channel d)) c.add_subscriber.new.totals) (sym (take_more items i (to.Output 0) c.loop-listener-test.true)) (c.add_subscriber.ensures.joins f (take i items) table (c.loop-listener.invariant.1 f table)),
     )
 
-pub returns : goal.returns
-returns c =
+pub returns-clause-weights : goal.returns-clause-weights
+returns-clause-weights c =
     let arch = c.args.arch.now in
     let items = c.listeners-listener-items.result.now in
     let end : c.loop-listener.listener-index ≡ length items = omega arith in

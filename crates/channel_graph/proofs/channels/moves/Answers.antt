@@ -9,7 +9,7 @@ use Rattle.channel_graph.proofs.channels.moves.Goals as goal
 
 pub loop-c-preserved : goal.loop-c-preserved
 loop-c-preserved c =
-    let here = c.move_weight.ensures (message_words c.args.arch.now (on.Channel c.loop-c.c)) c.words_on.ensures in
+    let here = c.move_weight.ensures (message_words c.args.arch.now (on.Channel c.loop-c.c)) c.words_on-words.ensures in
     table_more c.loop-c.c (channel_move c.args.arch.now) c.loop-c.moves c.push.new.self c.move_weight.result c.loop-c.invariant c.in_ok-push.ensures.ok here
 
 pub returns : goal.returns
