@@ -20,3 +20,4 @@ pub mod Timed
 pub mod Ones
 pub mod Tables
 pub mod Delivered
+pub mod Rounded
