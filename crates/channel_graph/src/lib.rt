@@ -11,6 +11,7 @@ mod instructions;
 pub mod laws;
 mod listening;
 mod longest;
+mod marked;
 mod reach;
 mod scope;
 mod section;
