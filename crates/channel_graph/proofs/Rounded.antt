@@ -7,11 +7,12 @@ use Rattle.tower_syntax.specs.declared.arch.Handler.{Handler as HandlerValue}
 use Rattle.tower_syntax.specs.Arch.{Arch, Emitter}
 use Rattle.tower_syntax.specs.View.{emitter_of, handler_of}
 use Rattle.tower_syntax.specs.Graph.{handler, numbers_before}
-use Rattle.tower_syntax.specs.Weights.{emitter_weight, deliver_within, deliver, section}
+use Rattle.tower_syntax.specs.Weights.{emitter_weight, deliver_within, deliver, section_by, standing}
 use Rattle.tower_syntax.specs.WellNumbered.{IsNumberedHandler}
-use Rattle.channel_graph.specs.Table.{IsTable, section_of, channel_weight, further}
+use Rattle.channel_graph.specs.Table.{IsTable, section_of, further, code_of, link_weight, nothing}
 use Rattle.channel_graph.proofs.Listed.{numbers_before-suc}
 use Rattle.channel_graph.proofs.Led.{emitters_read}
+use Rattle.channel_graph.proofs.Searched.{handler_read}
 use Rattle.channel_graph.proofs.Saturating.{saturating_step}
 
 -- the channel of each emitter of a handler is one of n
@@ -50,3 +51,11 @@ pub list_more : (f : ℕ → ℕ) (n : ℕ) (xs ys : List ℕ) (x : ℕ) → xs 
 list_more f n xs ys x before grown here =
     let next : suc n ≡ n + 1 = omega arith in
     grown ∙ ap (λ zs. zs ++ x ∷ []) before ∙ ap (λ y. map f (numbers_before n []) ++ y ∷ []) here ∙ sym (map-append f (numbers_before n []) (n ∷ [])) ∙ ap (map f) (sym (numbers_before-suc n)) ∙ ap (λ m. map f (numbers_before m [])) next
+
+-- the instructions of a handler that is read
+pub code_read : (arch : Arch) (h : ℕ) (v : HandlerValue) (items : List EmitterValue) (links stands out : ℕ) → slice_get arch.handlers h ≡ Some (handler_of v) → items ≡ v.emitters → stands ≡ saturated (section_by standing arch (handler_of v)) → links ≡ saturated (sum (map (link_weight arch nothing) (map emitter_of items))) → out ≡ min (stands + links) (2 ^ 64 - 1) → out ≡ saturated (code_of arch h)
+code_read arch h v items links stands out found same stands_is links_is out_is =
+    let emitters = emitters_read arch h v items found same in
+    let here = ap (λ g. saturated (section_by standing arch g)) (sym (handler_read arch h v found)) in
+    saturating_step stands links out (section_by standing arch (handler arch h)) (sum (map (link_weight arch nothing) (map emitter_of items))) (code_of arch h) (stands_is ∙ here) links_is out_is
+    (ap (λ es. section_by standing arch (handler arch h) + sum (map (link_weight arch nothing) es)) (sym emitters))
