@@ -21,3 +21,4 @@ pub mod Ones
 pub mod Tables
 pub mod Delivered
 pub mod Rounded
+pub mod Walked
