@@ -1,20 +1,23 @@
 -- Walks, their lengths, and handlers that stand on one twice.
-use Rattle.std.proofs.Common.{◌≡◌, ℕ, zero, suc, ◌+◌, ◌-◌, ◌<◌, ◌≤◌, List, [], ◌∷◌, ◌++◌, length, filter, take, cond, not, Contains, Bool, true, false, ◌⊎◌, inl, inr, ◌==◌, arith, refl, sym, ◌∙◌, ap, subst}
+use Rattle.std.proofs.Common.{◌≡◌, ℕ, zero, suc, ◌+◌, ◌-◌, ◌<◌, ◌≤◌, List, [], ◌∷◌, ◌++◌, length, filter, take, get_or, replicate, cond, not, Contains, Bool, true, false, ◌⊎◌, inl, inr, ◌==◌, arith, refl, sym, ◌∙◌, ap, subst}
 use Rattle.std.proofs.lemmas.Bool.{false≢true, cases_Bool, cases_lt, eqb-true, eq-eqb}
+use Rattle.std.proofs.lemmas.List.{length-append, get_or_append_left, get_or_past, length-replicate, get_or-replicate, length-take-le}
+use Rattle.std.proofs.Math.Seq.{get_or-append_seam}
 use Rattle.tower_syntax.specs.declared.arch.On.TheVariants as on
 use Rattle.tower_syntax.specs.declared.arch.Listener.TheVariants as to
 use Rattle.tower_syntax.specs.Arch.{Arch}
-use Rattle.tower_syntax.specs.Graph.{leads, subs, Reaches}
+use Rattle.tower_syntax.specs.Graph.{handler, leads, subs, hears, same_on, Reaches}
 use Rattle.tower_syntax.specs.Graph.{begins as reach_begins, goes as reach_goes}
 use Rattle.tower_syntax.specs.WellNumbered.{AreListeners, IsWellNumbered}
 use Rattle.channel_graph.specs.declared.reach.Start.TheVariants as start
 use Rattle.channel_graph.specs.Reaching.{Follows, begins, goes}
 use Rattle.channel_graph.specs.Circuit.{LeadsBack, IsAcyclic}
-use Rattle.channel_graph.specs.Ranked.{rank}
+use Rattle.channel_graph.specs.Ranked.{rank, is_loud, AreLoud}
 use Rattle.channel_graph.specs.Chain.{IsOnSource, LeadsAlong, IsWalk, IsChain, IsChainWithin}
-use Rattle.channel_graph.specs.Lengths.{Starts, LeadsToMark, AreBefore, AreStarts, IsOnMark, HasWalk}
-use Rattle.channel_graph.proofs.Members.{In, filter_has, has_filter}
-use Rattle.channel_graph.proofs.Linked.{link_of, source_handler_below}
+use Rattle.channel_graph.specs.Lengths.{Starts, LeadsToMark, AreBefore, AreStarts, IsStart, IsOnMark, HasWalk}
+use Rattle.channel_graph.proofs.Members.{In, filter_has, has_filter, contains_from_In, In-from_contains}
+use Rattle.channel_graph.proofs.Linked.{link_of, source_handler_below, below_listed}
+use Rattle.channel_graph.proofs.Rounds.{loud_leads, leads_loud}
 
 -- ---- a list with more numbers than there are has one twice
 
@@ -138,3 +141,105 @@ along_take : (arch : Arch) (h n : ℕ) (hs : List ℕ) → LeadsAlong arch h hs 
 along_take arch h zero hs along = tt
 along_take arch h (suc n) [] along = tt
 along_take arch h (suc n) (k ∷ ks) along = (along.0, along_take arch k n ks along.1)
+
+-- ---- the search
+
+-- at first each handler is marked
+pub all_start : (arch : Arch) (ranks : List ℕ) → ranks ≡ replicate (length arch.handlers) 1 → AreStarts arch 1 ranks
+all_start arch ranks same = record {
+  each = ap length same ∙ length-replicate (length arch.handlers) 1;
+  sound = λ k marked. record { rest = []; along = tt; long = omega arith };
+  all = λ k below s. let one : rank ranks k ≡ 1 = ap (λ xs. get_or xs k 0) same ∙ get_or-replicate (length arch.handlers) k 1 0 below in omega arith;
+}
+
+pub no_walk_yet : (arch : Arch) → HasWalk arch 0
+no_walk_yet arch = record { walk = []; is = tt; long = refl }
+
+-- one handler more of those before the marked ones
+pub before_more : (arch : Arch) (old : List ℕ) (loud : List Bool) (m : ℕ) (new more : List ℕ) (b : Bool) (x : ℕ) → IsWellNumbered arch → AreLoud arch old (length arch.handlers) loud → m < length arch.handlers → AreBefore arch old m new → b ≡ is_loud arch loud m → x ≡ cond b 1 0 → more ≡ new ++ x ∷ [] → AreBefore arch old (m + 1) more
+before_more arch old loud m new more b x numbered l below before test is grown =
+    let here : rank more m ≡ x = ap (λ xs. get_or xs m 0) grown ∙ subst (λ j. get_or (new ++ x ∷ []) j 0 ≡ x) before.each (get_or-append_seam new x [] 0) in
+    let same : (k : ℕ) → k < m → rank more k ≡ rank new k = λ k h. let inside : k < length new = omega (arith, before.each) in ap (λ xs. get_or xs k 0) grown ∙ get_or_append_left new (x ∷ []) 0 k inside in
+    let long : length more ≡ m + 1 = ap length grown ∙ omega (arith, length-append new (x ∷ []), before.each) in
+    record {
+      each = long;
+      sound = λ k marked. elim (cases_lt k m) [
+        | inl early ↦ before.sound k (subst (λ r. 0 < r) (same k early) marked)
+        | inr late ↦ elim (cases_lt m k) [
+          | inl past ↦ let none : rank more k ≡ 0 = get_or_past more k 0 (omega (arith, long)) in absurd (omega arith)
+          | inr ended ↦
+              let at : m ≡ k = omega arith in
+              let loud_here : is_loud arch loud m ≡ true = mark_is_loud b x (is_loud arch loud m) test is (subst (λ r. 0 < r) here (subst (λ j. 0 < rank more j) (sym at) marked)) in
+              subst (LeadsToMark arch old) at (loud_leads arch old loud m numbered l loud_here)
+        ]
+      ];
+      all = λ k inside leads. elim (cases_lt k m) [
+        | inl early ↦ subst (λ r. 0 < r) (sym (same k early)) (before.all k early leads)
+        | inr late ↦
+            let at : k ≡ m = omega arith in
+            let one : x ≡ 1 = is ∙ ap (λ t. cond t 1 0) (test ∙ leads_loud arch old loud m numbered l below (subst (LeadsToMark arch old) at leads)) in
+            let mark : rank more m ≡ 1 = here ∙ one in
+            subst (λ j. 0 < rank more j) (sym at) (omega arith)
+      ];
+    }
+  where
+    mark_is_loud : (b : Bool) (x : ℕ) (t : Bool) → b ≡ t → x ≡ cond b 1 0 → 0 < x → t ≡ true
+    mark_is_loud true x t e f h = sym e
+    mark_is_loud false x t e f h = absurd (omega arith)
+
+-- those before the marked ones have walks of one handler more
+pub starts_before : (arch : Arch) (n : ℕ) (old new : List ℕ) → 1 ≤ n → AreListeners arch → AreStarts arch n old → AreBefore arch old (length arch.handlers) new → AreStarts arch (n + 1) new
+starts_before arch n old new some listed starts before = record {
+  each = before.each;
+  sound = λ k marked.
+      let l = before.sound k marked in
+      let s = starts.sound l.next l.marked in
+      record { rest = l.next ∷ s.rest; along = (l.link, s.along); long = omega (arith, s.long) };
+  all = λ k below s. before.all k below (next_of k s.rest s.along s.long);
+}
+  where
+    next_of : (k : ℕ) (rest : List ℕ) → LeadsAlong arch k rest → length rest + 1 ≡ n + 1 → LeadsToMark arch old k
+    next_of k [] along long = absurd (omega (arith, some, long))
+    next_of k (j ∷ js) along long = record {
+      next = j;
+      link = along.0;
+      marked = starts.all j (link_of arch k j listed along.0).below (record { rest = js; along = along.1; long = omega arith });
+    }
+
+-- a marked handler on a source has a walk
+pub walk_found : (arch : Arch) (n : ℕ) (ranks : List ℕ) → AreStarts arch n ranks → IsOnMark arch ranks → HasWalk arch n
+walk_found arch n ranks starts m =
+    let s = starts.sound m.handler m.start.marked in
+    record { walk = m.handler ∷ s.rest; is = (m.start.on, s.along); long = omega (arith, s.long) }
+
+-- where no walk has n + 1 handlers, none has more
+pub none_longer : (arch : Arch) (n : ℕ) (ranks : List ℕ) → AreListeners arch → AreStarts arch (n + 1) ranks → ((k : ℕ) → IsStart arch ranks k → ⊥) → (hs : List ℕ) → IsWalk arch hs → length hs ≤ n
+none_longer arch n ranks listed starts none [] walk = omega arith
+none_longer arch n ranks listed starts none (h ∷ hs) walk = elim (cases_lt n (length (h ∷ hs))) [
+  | inr few ↦ few
+  | inl more ↦
+      let short : length (take n hs) ≡ n = length-take-le n hs (omega arith) in
+      let s : Starts arch (n + 1) h = record { rest = take n hs; along = along_take arch h n hs walk.1; long = omega (arith, short) } in
+      absurd (none h (record { on = walk.0; marked = starts.all h (source_below arch h listed walk.0) s }))
+]
+
+pub chain_found : (arch : Arch) (n : ℕ) → HasWalk arch n → ((hs : List ℕ) → IsWalk arch hs → length hs ≤ n) → IsChain arch n
+chain_found arch n w most = record { walk = w.walk; is = w.is; long = w.long; longest = most }
+
+pub chain_within : (arch : Arch) (limit n : ℕ) → n ≤ limit → HasWalk arch n → ((hs : List ℕ) → IsWalk arch hs → length hs ≤ limit → length hs ≤ n) → IsChainWithin arch limit n
+chain_within arch limit n few w most = record { walk = w.walk; is = w.is; long = w.long; within = few; longest = most }
+
+-- ---- what the code tests
+
+-- a handler whose source exists is on a source
+pub on_source : (arch : Arch) (h s : ℕ) → AreListeners arch → h < length arch.handlers → s < length arch.sources → on.Source s ≡ (handler arch h).on → IsOnSource arch h
+on_source arch h s listed below exists at = record {
+  source = s;
+  exists = exists;
+  on = contains_from_In (subs arch (on.Source s)) (to.Handler h) (has_filter (hears arch (on.Source s)) arch.listeners (to.Handler h) (below_listed arch h listed below) (subst (λ o. same_on o (on.Source s) ≡ true) at (eq-eqb s s refl)));
+}
+
+pub on_channel : (arch : Arch) (h c : ℕ) → on.Channel c ≡ (handler arch h).on → IsOnSource arch h → ⊥
+on_channel arch h c at o =
+    let m = filter_has (hears arch (on.Source o.source)) arch.listeners (to.Handler h) (In-from_contains (subs arch (on.Source o.source)) (to.Handler h) o.on) in
+    false≢true (subst (λ p. same_on p (on.Source o.source) ≡ true) (sym at) m.1)

@@ -1,5 +1,5 @@
 -- How far a search for the longest walk has come: it marks, by a number above 0, the handlers at which a walk of n handlers starts.
-use Rattle.std.specs.Prelude.{ℕ, suc, ◌+◌, ◌<◌, ◌≡◌, List, length, slice_index_or, true, MatchBool}
+use Rattle.std.specs.Prelude.{ℕ, ◌+◌, ◌<◌, ◌≡◌, List, length, true}
 use Rattle.tower_syntax.specs.Arch.{Arch}
 use Rattle.tower_syntax.specs.Graph.{leads}
 use Rattle.channel_graph.specs.Ranked.{rank}
@@ -29,11 +29,15 @@ pub record AreStarts (arch : Arch) (n : ℕ) (ranks : List ℕ) : Type 0 where
   pub sound : (k : ℕ) → 0 < rank ranks k → Starts arch n k
   pub all : (k : ℕ) → k < length arch.handlers → Starts arch n k → 0 < rank ranks k
 
+-- the handler is on a source, and marked
+pub record IsStart (arch : Arch) (ranks : List ℕ) (h : ℕ) : Type 0 where
+  pub on : IsOnSource arch h
+  pub marked : 0 < rank ranks h
+
 -- a handler on a source is marked
 pub record IsOnMark (arch : Arch) (ranks : List ℕ) : Type 0 where
   pub handler : ℕ
-  pub on : IsOnSource arch handler
-  pub marked : 0 < rank ranks handler
+  pub start : IsStart arch ranks handler
 
 -- some walk has n handlers
 pub record HasWalk (arch : Arch) (n : ℕ) : Type 0 where

@@ -1,10 +1,10 @@
 //! The longest walk from a source: length by length, the handlers at which a walk of so many handlers starts.
 
-ghost use Rattle.std.specs.Prelude.{◌≡◌, ◌<◌, length, MatchBool, IfOk};
-ghost use Rattle.tower_syntax.specs.WellNumbered.{IsWellNumbered};
+ghost use Rattle.std.specs.Prelude.{◌≡◌, ◌<◌, ℕ, length, MatchBool, IfOk};
+ghost use Rattle.tower_syntax.specs.WellNumbered.{AreListeners};
 ghost use Rattle.channel_graph.specs.Circuit.{IsAcyclic};
 ghost use Rattle.channel_graph.specs.Chain.{IsChain, IsChainWithin};
-ghost use Rattle.channel_graph.specs.Lengths.{AreBefore, IsOnMark};
+ghost use Rattle.channel_graph.specs.Lengths.{AreBefore, IsStart, IsOnMark};
 
 use crate::circuit::{is_heard, loud_channels};
 use sqlite_items::Items;
@@ -26,13 +26,31 @@ fn one_before(alloc: Global, arch: &Arch, ranks: &[u64]) -> Result<Items<u64>, N
     Ok(before)
 }
 
+/// Whether handler `k` is on a source, and has a number above 0.
+fn is_start(arch: &Arch, ranks: &[u64], k: u32) -> bool
+    requires ranks { length ranks.now ≡ length arch.now.handlers }
+    requires handler { k < length arch.now.handlers }
+    requires listed { AreListeners arch.now }
+    ensures { MatchBool result (IsStart arch.now ranks.now k) (IsStart arch.now ranks.now k → ⊥) }
+{
+    if ranks[k as usize] == 0 {
+        return false;
+    }
+    match arch.handler(k).on {
+        On::Source(_) => true,
+        On::Channel(_) => false,
+    }
+}
+
 /// Whether a handler on a source has a number above 0.
 fn starts_on_source(arch: &Arch, ranks: &[u64]) -> bool
     requires { length ranks.now ≡ length arch.now.handlers }
-    ensures { MatchBool result (IsOnMark arch.now ranks.now → ⊥) (IsOnMark arch.now ranks.now) }
+    ensures { MatchBool result
+        (IsOnMark arch.now ranks.now)
+        ((k : ℕ) → IsStart arch.now ranks.now k → ⊥) }
 {
-    for (k, handler) in arch.handlers().iter().enumerate() {
-        if ranks[k] > 0 && matches!(handler.on, On::Source(_)) {
+    for k in 0..arch.handlers().len() {
+        if is_start(arch, ranks, k as u32) {
             return true;
         }
     }
