@@ -22,3 +22,4 @@ pub mod Tables
 pub mod Delivered
 pub mod Rounded
 pub mod Walked
+pub mod Relayed

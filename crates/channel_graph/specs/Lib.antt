@@ -6,6 +6,7 @@ pub mod Ranked
 pub mod Settled
 pub mod Over
 pub mod Chain
+pub mod Relay
 pub mod Lengths
 pub mod Stepped
 pub mod Site

@@ -29,3 +29,6 @@ pub use listening::subscribers;
 pub use longest::chain;
 pub use reach::reached;
 pub use size::memory;
+
+#[cfg(test)]
+mod tests;
