@@ -23,3 +23,4 @@ pub mod Delivered
 pub mod Rounded
 pub mod Walked
 pub mod Relayed
+pub mod Recursed

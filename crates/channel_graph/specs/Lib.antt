@@ -14,3 +14,4 @@ pub mod Scoped
 pub mod Counting
 pub mod Table
 pub mod Costed
+pub mod Laws

@@ -1,0 +1,21 @@
+-- What the laws say of the definitions.
+use Rattle.std.specs.Prelude.{ℕ, ◌+◌, ◌<◌, ◌≡◌, length, map, sum}
+use Rattle.tower_syntax.specs.Arch.{Arch}
+use Rattle.tower_syntax.specs.Graph.{handler, Reaches}
+use Rattle.tower_syntax.specs.Weights.{section, emitter_weight, deliver}
+use Rattle.tower_syntax.specs.WellNumbered.{AreListeners}
+use Rattle.channel_graph.specs.Circuit.{IsAcyclic}
+
+-- at each handler that the source reaches, its section and all that its emitters hold, where a handler costs as said
+abbrev pub IsDelivery : Arch → ℕ → (ℕ → ℕ) → Type 0
+IsDelivery arch s of_handler =
+    (h : ℕ) → Reaches arch s h → of_handler h ≡ section arch (handler arch h) + sum (map (emitter_weight arch of_handler) (handler arch h).emitters)
+
+-- where no cycle is reached, `deliver` is a recursion on the links
+abbrev pub DeliverRecurs : Type 0
+DeliverRecurs = (arch : Arch) (s : ℕ) → AreListeners arch → IsAcyclic arch → s < length arch.sources → IsDelivery arch s (deliver arch)
+
+-- and nothing else is
+abbrev pub DeliverIsOnly : Type 0
+DeliverIsOnly =
+    (arch : Arch) (s : ℕ) (of_handler : ℕ → ℕ) → AreListeners arch → IsAcyclic arch → s < length arch.sources → IsDelivery arch s of_handler → (h : ℕ) → Reaches arch s h → of_handler h ≡ deliver arch h
