@@ -24,3 +24,5 @@ pub mod Rounded
 pub mod Walked
 pub mod Relayed
 pub mod Recursed
+pub mod Firsts
+pub mod ShownWalk

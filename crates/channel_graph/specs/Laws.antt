@@ -1,10 +1,12 @@
 -- What the laws say of the definitions.
-use Rattle.std.specs.Prelude.{ℕ, ◌+◌, ◌<◌, ◌≡◌, length, map, sum}
+use Rattle.std.specs.Prelude.{ℕ, ◌+◌, ◌<◌, ◌≡◌, ◌↔◌, Some, length, map, sum}
 use Rattle.tower_syntax.specs.Arch.{Arch}
 use Rattle.tower_syntax.specs.Graph.{handler, Reaches}
 use Rattle.tower_syntax.specs.Weights.{section, emitter_weight, deliver}
 use Rattle.tower_syntax.specs.WellNumbered.{AreListeners}
-use Rattle.channel_graph.specs.Circuit.{IsAcyclic}
+use Rattle.channel_graph.specs.declared.circuit.CycleFound.{CycleFound}
+use Rattle.channel_graph.specs.Circuit.{IsAcyclic, shown}
+use Rattle.channel_graph.specs.Shown.{IsShown}
 
 -- at each handler that the source reaches, its section and all that its emitters hold, where a handler costs as said
 abbrev pub IsDelivery : Arch → ℕ → (ℕ → ℕ) → Type 0
@@ -19,3 +21,7 @@ DeliverRecurs = (arch : Arch) (s : ℕ) → AreListeners arch → IsAcyclic arch
 abbrev pub DeliverIsOnly : Type 0
 DeliverIsOnly =
     (arch : Arch) (s : ℕ) (of_handler : ℕ → ℕ) → AreListeners arch → IsAcyclic arch → s < length arch.sources → IsDelivery arch s of_handler → (h : ℕ) → Reaches arch s h → of_handler h ≡ deliver arch h
+
+-- `shown` computes the one cycle that is shown
+abbrev pub ShownIs : Type 0
+ShownIs = (arch : Arch) (c : CycleFound) → AreListeners arch → (shown arch ≡ Some c) ↔ IsShown arch c

@@ -14,4 +14,5 @@ pub mod Scoped
 pub mod Counting
 pub mod Table
 pub mod Costed
+pub mod Shown
 pub mod Laws

@@ -1,7 +1,7 @@
 //! Laws of the definitions, and worked cases. The bodies are empty: the check proves or computes what the
 //! contracts say.
 
-ghost use Rattle.channel_graph.specs.Laws.{DeliverRecurs, DeliverIsOnly};
+ghost use Rattle.channel_graph.specs.Laws.{DeliverRecurs, DeliverIsOnly, ShownIs};
 ghost use Rattle.channel_graph.specs.Worked.{WorkedGraph};
 
 /// Cycles that are shown, what sources reach, and counts of messages of some systems.
@@ -14,4 +14,10 @@ pub fn worked_graph()
 pub fn deliver_law()
     ensures recurs { DeliverRecurs }
     ensures only { DeliverIsOnly }
+{}
+
+/// The cycle that is shown is the one of the least source that reaches a handler which leads back to itself: from the
+/// least such handler on, by a shortest walk back to it, each time by the least handler from which it is as near.
+pub fn shown_law()
+    ensures { ShownIs }
 {}
