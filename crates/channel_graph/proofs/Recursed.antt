@@ -1,13 +1,13 @@
 -- What a handler costs by as many rounds as there are handlers is what it costs by a recursion on its links.
-use Rattle.std.proofs.Common.{◌≡◌, ℕ, zero, suc, ◌+◌, ◌-◌, ◌*◌, ◌<◌, ◌≤◌, List, [], ◌∷◌, length, map, sum, true, inl, inr, arith, refl, sym, ◌∙◌, ap, subst}
-use Rattle.std.proofs.lemmas.Bool.{cases_lt, eq-eqb}
+use Rattle.std.proofs.Common.{◌≡◌, ℕ, zero, suc, ◌+◌, ◌-◌, ◌*◌, ◌<◌, ◌≤◌, List, [], ◌∷◌, length, map, sum, true, inl, inr, arith, refl, sym, ◌∙◌, ap}
+use Rattle.std.proofs.lemmas.Bool.{eq-eqb}
 use Rattle.std.specs.List.{list_any}
 use Rattle.tower_syntax.specs.declared.arch.On.TheVariants as on
 use Rattle.tower_syntax.specs.declared.arch.Listener.{Listener}
 use Rattle.tower_syntax.specs.declared.arch.Listener.TheVariants as to
 use Rattle.tower_syntax.specs.Arch.{Arch, Emitter}
 use Rattle.tower_syntax.specs.Graph.{handler, subs, is_handler, leads, Reaches, begins, goes}
-use Rattle.tower_syntax.specs.Weights.{section, subscribers_weight, emitter_words, emitter_weight, deliver_within, deliver}
+use Rattle.tower_syntax.specs.Weights.{section, subscribers_weight, emitter_words, emitter_weight, deliver_within}
 use Rattle.tower_syntax.specs.WellNumbered.{AreListeners}
 use Rattle.channel_graph.specs.Circuit.{IsAcyclic}
 use Rattle.channel_graph.specs.Chain.{LeadsAlong, IsWalk}

@@ -1,24 +1,24 @@
 -- The cycle that is computed round by round is the one that is shown.
-use Rattle.std.proofs.Common.{◌≡◌, ℕ, zero, suc, ◌+◌, ◌<◌, ◌≤◌, ◌↔◌, List, [], ◌∷◌, length, filter, Option, Some, None, unwrap_or, Bool, true, false, ◌&&◌, ◌==◌, inl, inr, arith, refl, sym, ◌∙◌, ap, subst}
-use Rattle.std.specs.List.{list_any, find}
-use Rattle.std.proofs.lemmas.Bool.{false≢true, cases_Bool, or_cases, cases_lt, eqb-true, eq-eqb}
+use Rattle.std.proofs.Common.{◌≡◌, ℕ, zero, suc, ◌<◌, ◌≤◌, List, [], ◌∷◌, length, Option, Some, None, unwrap_or, Bool, true, false, ◌&&◌, ◌==◌, inl, inr, arith, refl, sym, ◌∙◌, ap, subst}
+use Rattle.std.specs.List.{list_any}
+use Rattle.std.proofs.lemmas.Bool.{false≢true, or_cases, cases_lt, eqb-true, eq-eqb}
 use Rattle.tower_syntax.specs.Arch.{Arch}
-use Rattle.tower_syntax.specs.Graph.{leads, handler_numbers, numbers_before, reached_by, Reaches}
+use Rattle.tower_syntax.specs.Graph.{leads, handler_numbers, numbers_before, reached_by}
 use Rattle.tower_syntax.specs.Weights.{source_numbers}
 use Rattle.tower_syntax.specs.WellNumbered.{AreListeners}
 use Rattle.channel_graph.specs.declared.circuit.CycleFound.{CycleFound}
 use Rattle.channel_graph.specs.declared.reach.Start.TheVariants as start
-use Rattle.channel_graph.specs.Reaching.{Follows, begins, goes}
-use Rattle.channel_graph.specs.Circuit.{near, leads_near, circuit, nearer, walk, walk_if, walk_round, first_of_all, found_at, shown_at, shown, LeadsBack, IsAcyclic}
+use Rattle.channel_graph.specs.Reaching.{begins, goes}
+use Rattle.channel_graph.specs.Circuit.{near, leads_near, circuit, nearer, walk, walk_if, walk_round, first_of_all, found_at, shown_at, shown, LeadsBack}
 use Rattle.channel_graph.specs.Ranked.{is_near}
 use Rattle.channel_graph.specs.Shown.{IsLeast, LeadsIn, ReachesLoop, HasLoop, LeadsOn, GoesRound, IsShown}
 use Rattle.channel_graph.specs.Laws.{ShownIs}
 use Rattle.channel_graph.proofs.Members.{In, number_below, below_number}
 use Rattle.channel_graph.proofs.Linked.{link_of}
-use Rattle.channel_graph.proofs.Closed.{kept, reached_closed, listed_is_reached, reached_is_listed}
+use Rattle.channel_graph.proofs.Closed.{reached_closed, listed_is_reached, reached_is_listed}
 use Rattle.channel_graph.proofs.Shortest.{near_wider, wider_near, nearby, from_nearby, near_follows}
 use Rattle.channel_graph.proofs.Acyclic.{no_walk_no_links, shown_none}
-use Rattle.channel_graph.proofs.Firsts.{IsRising, rising_numbers, rising_filter, some_same, none_some, FirstIn, first_least, none_first, FoundIn, find_least, Finds, has_find}
+use Rattle.channel_graph.proofs.Firsts.{IsRising, rising_numbers, rising_filter, some_same, none_some, first_least, none_first, find_least, has_find}
 
 -- ---- what is near has a walk
 

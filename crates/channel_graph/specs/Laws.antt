@@ -8,16 +8,16 @@ use Rattle.channel_graph.specs.declared.circuit.CycleFound.{CycleFound}
 use Rattle.channel_graph.specs.Circuit.{IsAcyclic, shown}
 use Rattle.channel_graph.specs.Shown.{IsShown}
 
--- at each handler that the source reaches, its section and all that its emitters hold, where a handler costs as said
+-- each handler that the source reaches costs its section and all that its emitters hold, where those that these lead to cost as said
 abbrev pub IsDelivery : Arch → ℕ → (ℕ → ℕ) → Type 0
 IsDelivery arch s of_handler =
     (h : ℕ) → Reaches arch s h → of_handler h ≡ section arch (handler arch h) + sum (map (emitter_weight arch of_handler) (handler arch h).emitters)
 
--- where no cycle is reached, `deliver` is a recursion on the links
+-- where no source reaches a cycle, `deliver` is a recursion on the links
 abbrev pub DeliverRecurs : Type 0
 DeliverRecurs = (arch : Arch) (s : ℕ) → AreListeners arch → IsAcyclic arch → s < length arch.sources → IsDelivery arch s (deliver arch)
 
--- and nothing else is
+-- and whatever else is that recursion says the same
 abbrev pub DeliverIsOnly : Type 0
 DeliverIsOnly =
     (arch : Arch) (s : ℕ) (of_handler : ℕ → ℕ) → AreListeners arch → IsAcyclic arch → s < length arch.sources → IsDelivery arch s of_handler → (h : ℕ) → Reaches arch s h → of_handler h ≡ deliver arch h

@@ -26,13 +26,13 @@ HasLoop arch s = (s < length arch.sources) × (h : ℕ) × ReachesLoop arch s h
 abbrev pub LeadsOn : Arch → ℕ → ℕ → ℕ → ℕ → Type 0
 LeadsOn arch n h k j = (leads arch k j ≡ true) × LeadsIn arch n j h
 
--- from k to each of these in turn and then to h, each time to the least handler from which the links that are left lead to h
+-- a walk from k by each of these to h, each time to the least handler from which as many links as are left lead to h
 abbrev pub GoesRound : Arch → ℕ → ℕ → List ℕ → Type 0
 GoesRound arch h k [] = leads arch k h ≡ true
 GoesRound arch h k (j ∷ js) = IsLeast (LeadsOn arch (length (j ∷ js)) h k) j × GoesRound arch h j js
 
--- the least source that reaches a handler which leads back to itself, and from the least such handler on the shortest
--- walk back to it, each time by the least handler
+-- the first source that reaches a handler which leads back to itself, and from the least such handler on a shortest walk
+-- back to it, each time to the least handler that is one link nearer
 pub record IsShown (arch : Arch) (c : CycleFound) : Type 0 where
   pub first : IsLeast (HasLoop arch) c.source
   pub head : ℕ

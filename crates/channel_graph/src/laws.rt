@@ -9,15 +9,16 @@ pub fn worked_graph()
     ensures { WorkedGraph }
 {}
 
-/// Where no source reaches a cycle, what a handler costs is its section and all that its emitters hold, with what each
-/// handler that these lead to costs: `deliver` says so of each handler that a source reaches, and nothing else does.
+/// Where no source reaches a cycle, a handler that one reaches costs its section and all that its emitters hold, each
+/// message with what the handlers on its channel cost. `deliver` says that of each such handler, and nothing else does.
 pub fn deliver_law()
     ensures recurs { DeliverRecurs }
     ensures only { DeliverIsOnly }
 {}
 
-/// The cycle that is shown is the one of the least source that reaches a handler which leads back to itself: from the
-/// least such handler on, by a shortest walk back to it, each time by the least handler from which it is as near.
+/// The cycle that is shown is that of the least source that reaches a handler which leads back to itself. From the
+/// least such handler on it is a shortest walk back, each time to the least handler that is one link nearer. `shown`
+/// computes it, and no other cycle is it.
 pub fn shown_law()
     ensures { ShownIs }
 {}
