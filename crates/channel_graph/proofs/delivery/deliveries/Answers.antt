@@ -3,7 +3,7 @@ use Rattle.std.proofs.lemmas.List.{length-map}
 use Rattle.std.proofs.lemmas.Slice.Eq.{bytes_eq-Decides}
 use Rattle.tower_syntax.specs.View.{handler_of}
 use Rattle.tower_syntax.specs.Weights.{deliver_within}
-use Rattle.channel_graph.specs.Table.{IsTable, further}
+use Rattle.channel_graph.specs.Table.{IsTable}
 use Rattle.channel_graph.proofs.Rounded.{settled_in}
 use Rattle.channel_graph.proofs.delivery.deliveries.Goals as goal
 
