@@ -1,12 +1,12 @@
-//! Who hears whom in a system: subscribers, what a source reaches, the cycle that is shown, how many messages a handler
-//! may emit, and how much memory a system needs.
+//! Who hears whom in a system: subscribers, what a source reaches, the cycle that is shown and the longest walk; and
+//! what the text weighs: how many messages a handler may emit, what a message costs, and the memory and code of a system.
 #![tactic(auto)]
 
 mod bounds;
 mod channels;
 mod circuit;
-mod delivery;
 mod counting;
+mod delivery;
 mod instructions;
 pub mod laws;
 mod listening;
@@ -22,8 +22,8 @@ mod weight;
 
 pub use bounds::{Over, first_over};
 pub use circuit::{CycleFound, cycle};
-pub use delivery::costs;
 pub use counting::most;
+pub use delivery::costs;
 pub use instructions::code;
 pub use listening::subscribers;
 pub use longest::chain;
