@@ -1,5 +1,5 @@
 -- Ascending lists of numbers, and the first of one with an answer: no lesser number has one.
-use Rattle.std.proofs.Common.{◌≡◌, ℕ, zero, suc, ◌<◌, ◌≤◌, List, [], ◌∷◌, filter, cond, Option, Some, None, unwrap_or, Bool, true, false, inl, inr, arith, refl, sym, ◌∙◌, ap, subst}
+use Rattle.std.proofs.Common.{◌≡◌, ℕ, zero, suc, ◌<◌, ◌≤◌, List, [], ◌∷◌, filter, cond, Option, Some, None, unwrap_or, Bool, true, inl, inr, arith, refl, sym, ◌∙◌, ap, subst}
 use Rattle.std.specs.List.{find}
 use Rattle.std.proofs.lemmas.Bool.{false≢true, cases_Bool}
 use Rattle.tower_syntax.specs.Graph.{numbers_before}

@@ -8,8 +8,8 @@ use Rattle.tower_syntax.specs.Weights.{source_numbers}
 use Rattle.tower_syntax.specs.WellNumbered.{AreListeners}
 use Rattle.channel_graph.specs.declared.circuit.CycleFound.{CycleFound}
 use Rattle.channel_graph.specs.declared.reach.Start.TheVariants as start
-use Rattle.channel_graph.specs.Reaching.{begins, goes}
-use Rattle.channel_graph.specs.Circuit.{near, leads_near, circuit, nearer, walk, walk_if, walk_round, first_of_all, found_at, shown_at, shown, LeadsBack}
+use Rattle.channel_graph.specs.Reaching.{begins}
+use Rattle.channel_graph.specs.Circuit.{leads_near, circuit, nearer, walk, walk_if, walk_round, first_of_all, found_at, shown_at, shown, LeadsBack}
 use Rattle.channel_graph.specs.Ranked.{is_near}
 use Rattle.channel_graph.specs.Shown.{IsLeast, LeadsIn, ReachesLoop, HasLoop, LeadsOn, GoesRound, IsShown}
 use Rattle.channel_graph.specs.Laws.{ShownIs}
