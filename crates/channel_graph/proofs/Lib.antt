@@ -13,3 +13,16 @@ pub mod Rounds
 pub mod Sized
 pub mod Acyclic
 pub mod Peeled
+pub mod Weighed
+pub mod Looked
+pub mod Shaped
+pub mod Timed
+pub mod Ones
+pub mod Tables
+pub mod Delivered
+pub mod Rounded
+pub mod Walked
+pub mod Relayed
+pub mod Recursed
+pub mod Firsts
+pub mod ShownWalk

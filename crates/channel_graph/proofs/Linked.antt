@@ -1,5 +1,5 @@
 -- Which handlers a channel and a handler lead to, in a well numbered system.
-use Rattle.std.proofs.Common.{◌≡◌, ℕ, ◌<◌, List, [], ◌∷◌, length, true, inl, inr, refl, sym, ap, subst}
+use Rattle.std.proofs.Common.{◌≡◌, ℕ, ◌<◌, List, [], ◌∷◌, length, Contains, true, inl, inr, refl, sym, ap, subst}
 use Rattle.std.proofs.lemmas.Bool.{false≢true, eqb-true, eq-eqb}
 use Rattle.std.specs.List.{list_any}
 use Rattle.tower_syntax.specs.declared.arch.On.{On}
@@ -10,7 +10,7 @@ use Rattle.tower_syntax.specs.Arch.{Arch, Emitter}
 use Rattle.tower_syntax.specs.Graph.{handler, hears, subs, is_handler, leads}
 use Rattle.tower_syntax.specs.WellNumbered.{AreListeners, handlers_among}
 use Rattle.channel_graph.specs.Reaching.{is_on}
-use Rattle.channel_graph.proofs.Members.{In, any_has, has_any, filter_has, has_filter, number_below, below_number}
+use Rattle.channel_graph.proofs.Members.{In, any_has, has_any, filter_has, has_filter, number_below, below_number, In-from_contains}
 
 among_has : (ls : List Listener) (k : ℕ) → In (to.Handler k) ls → In k (handlers_among ls)
 among_has [] k h = h
@@ -61,3 +61,9 @@ link_of arch h k listed e =
 pub of_link : (arch : Arch) (h k : ℕ) → AreListeners arch → Link arch h k → leads arch h k ≡ true
 of_link arch h k listed l =
     has_any (λ e. list_any (is_handler k) (subs arch (on.Channel e.channel))) (handler arch h).emitters l.emitter l.has (on_is_sub arch (on.Channel l.emitter.channel) k listed l.below l.on)
+
+-- a handler on a source exists
+pub source_handler_below : (arch : Arch) (h s : ℕ) → AreListeners arch → Contains (subs arch (on.Source s)) (to.Handler h) → h < length arch.handlers
+source_handler_below arch h s listed c =
+    let m = filter_has (hears arch (on.Source s)) arch.listeners (to.Handler h) (In-from_contains (subs arch (on.Source s)) (to.Handler h) c) in
+    listed_below arch h listed m.0

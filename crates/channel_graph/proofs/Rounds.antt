@@ -11,6 +11,7 @@ use Rattle.tower_syntax.specs.Graph.{numbers_before, handler_numbers, handler, n
 use Rattle.tower_syntax.specs.WellNumbered.{AreListeners, IsWellNumbered}
 use Rattle.channel_graph.specs.Reaching.{is_on, IsMarked, IsWithin, AreReached}
 use Rattle.channel_graph.specs.Circuit.{near, wider, leads_near, nearer, walk, walk_if, walk_round, first_of_all, found_at, shown_at}
+use Rattle.channel_graph.specs.Lengths.{LeadsToMark}
 use Rattle.channel_graph.specs.Ranked.{rank, is_near, AreRanked, AreLoud, is_loud, ranked_next, Widens, least_ranked, MarksChannel, AreLooping, marked_below}
 use Rattle.channel_graph.proofs.Members.{In, any_has, has_any, filter_has, number_below, contains_from_In}
 use Rattle.channel_graph.proofs.Linked.{link_of, of_link}
@@ -75,6 +76,23 @@ all_in P xs x all h = let at = contains_from_In xs x h in subst P at.2 (all at.0
 
 emitter_below : (arch : Arch) (k : ℕ) (e : Emitter) → IsWellNumbered arch → k < length arch.handlers → In e (handler arch k).emitters → e.channel < length arch.channels
 emitter_below arch k e numbered below h = all_in (λ x. x.channel < length arch.channels) (handler arch k).emitters e (numbered.handlers k no_handler below).emitters h
+
+-- to emit on a marked channel is to lead to a handler with a rank
+pub loud_leads : (arch : Arch) (ranks : List ℕ) (loud : List Bool) (k : ℕ) → IsWellNumbered arch → AreLoud arch ranks (length arch.handlers) loud → is_loud arch loud k ≡ true → LeadsToMark arch ranks k
+loud_leads arch ranks loud k numbered l e =
+    let m = any_has (λ x. get_or loud x.channel false) (handler arch k).emitters e in
+    let j = l.heard m.element.channel m.passes in
+    record {
+      next = j.number;
+      link = of_link arch k j.number numbered.listeners (record { emitter = m.element; has = m.has; below = j.below; on = j.on });
+      marked = j.ranked;
+    }
+
+pub leads_loud : (arch : Arch) (ranks : List ℕ) (loud : List Bool) (k : ℕ) → IsWellNumbered arch → AreLoud arch ranks (length arch.handlers) loud → k < length arch.handlers → LeadsToMark arch ranks k → is_loud arch loud k ≡ true
+leads_loud arch ranks loud k numbered l below j =
+    let m = link_of arch k j.next numbered.listeners j.link in
+    has_any (λ x. get_or loud x.channel false) (handler arch k).emitters m.emitter m.has
+    (l.all m.emitter.channel j.next (emitter_below arch k m.emitter numbered below m.has) m.below j.marked m.on)
 
 -- to emit on a marked channel is to lead to a handler that is near
 pub loud_near : (arch : Arch) (h n : ℕ) (ranks : List ℕ) (loud : List Bool) (k : ℕ) → IsWellNumbered arch → AreRanked arch h n ranks → AreLoud arch ranks (length arch.handlers) loud → k < length arch.handlers → is_loud arch loud k ≡ leads_near arch h n k

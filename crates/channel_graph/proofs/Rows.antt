@@ -13,4 +13,7 @@ worked_graph = record {
   loop_of_four = refl;
   greater_branch = refl;
   long_loops = refl;
+  relay_cost = refl;
+  relay_memory = refl;
+  relay_code = refl;
 }

@@ -4,3 +4,15 @@ pub mod Circuit
 pub mod Worked
 pub mod Ranked
 pub mod Settled
+pub mod Over
+pub mod Chain
+pub mod Relay
+pub mod Lengths
+pub mod Stepped
+pub mod Site
+pub mod Scoped
+pub mod Counting
+pub mod Table
+pub mod Costed
+pub mod Shown
+pub mod Laws

@@ -8,10 +8,11 @@ use Rattle.tower_syntax.specs.declared.arch.Listener.TheVariants as to
 use Rattle.tower_syntax.specs.Tree.{set, emit, loop, branch, stmt, no_stmts}
 use Rattle.tower_syntax.specs.Arch.{Arch, Handler}
 use Rattle.tower_syntax.specs.Graph.{reached_by, subs}
-use Rattle.tower_syntax.specs.Weights.{most, cost, source_numbers}
+use Rattle.tower_syntax.specs.Weights.{most, cost, memory, code, source_numbers}
 use Rattle.tower_syntax.specs.Examples.{cyc, clock, emitter, callback, handler, value_at, whole}
 use Rattle.tower_syntax.specs.Flight.{flight}
 use Rattle.channel_graph.specs.Circuit.{shown}
+use Rattle.channel_graph.specs.Relay.{relay}
 
 -- `cyc` with a first handler g on s that emits on a
 abbrev pub ring : Arch
@@ -70,3 +71,6 @@ pub record WorkedGraph : Type 0 where
   pub loop_of_four : most four_turns 0 ≡ 4
   pub greater_branch : most two_or_one 0 ≡ 2
   pub long_loops : cost long_clock 0 ≡ 154620920016
+  pub relay_cost : cost (relay 2) 0 ≡ 800
+  pub relay_memory : memory (relay 2) ≡ 202
+  pub relay_code : code (relay 2) ≡ 524

@@ -44,7 +44,7 @@ fn emits_on(emitters: &[Emitter], c: u32) -> bool
 }
 
 /// Whether handler `k` emits on a marked channel.
-fn is_heard(arch: &Arch, loud: &[bool], k: u32) -> bool
+pub(crate) fn is_heard(arch: &Arch, loud: &[bool], k: u32) -> bool
     requires handler { k < length arch.now.handlers }
     requires each { length loud.now ≡ length arch.now.channels }
     ensures { result ≡ is_loud arch.now loud.now k }
@@ -68,7 +68,11 @@ fn mark_channel(loud: &mut Items<bool>, on: On)
 }
 
 /// Marks each channel that a handler with a rank is on.
-fn loud_channels(alloc: Global, arch: &Arch, ranks: &[u64]) -> Result<Items<bool>, NoMemory>
+pub(crate) fn loud_channels(
+    alloc: Global,
+    arch: &Arch,
+    ranks: &[u64],
+) -> Result<Items<bool>, NoMemory>
     requires { length ranks.now ≡ length arch.now.handlers }
     ensures { IfOk result (AreLoud arch.now ranks.now (length arch.now.handlers)) }
 {

@@ -25,7 +25,7 @@ pub(crate) fn is_same(a: On, b: On) -> bool
 }
 
 /// The source or channel that a handler or output names.
-fn attachment(arch: &Arch, listener: Listener) -> On
+pub(crate) fn attachment(arch: &Arch, listener: Listener) -> On
     requires { Exists arch.now listener }
     ensures { result ≡ attached arch.now listener }
 {

@@ -5,13 +5,13 @@ ghost use Rattle.tower_types.specs.Ty.{words, shape_in, table_of};
 ghost use Rattle.tower_types.specs.View.{ty_of, fields_of};
 ghost use Rattle.tower_types.specs.Records.{saturated};
 ghost use Rattle.tower_syntax.specs.View.{body_of, emitter_of, handler_of, monitor_of};
-ghost use Rattle.tower_syntax.specs.Graph.{handler};
 ghost use Rattle.tower_syntax.specs.Weights.{message_words, field_shapes, monitor_words, emitter_words, handler_memory, source_memory, memory};
 ghost use Rattle.tower_syntax.specs.WellNumbered.{IsNumberedType, IsNumberedOn, AreNumberedFields, IsNumberedHandler, AreListeners};
 ghost use Rattle.channel_graph.specs.Reaching.{AreAudiences};
-ghost use Rattle.channel_graph.specs.Ranked.{marked_below};
+ghost use Rattle.channel_graph.specs.Table.{IsTable, frame_of};
 
-use crate::reach::{Start, audiences, reach_from};
+use crate::marked::reached_sum;
+use crate::reach::audiences;
 use sqlite_items::Items;
 use std::alloc::Global;
 use tower_syntax::{Arch, Body, Emitter, Handler, Monitor, On};
@@ -115,33 +115,35 @@ fn states_words(arch: &Arch) -> u64
     total
 }
 
-/// The words of all marked handlers.
-fn handlers_words(arch: &Arch, marks: &[bool]) -> u64
-    requires { length marks.now ≡ length arch.now.handlers }
-    ensures { result ≡ saturated (sum (map
-        (λ h. handler_memory arch.now (handler arch.now h))
-        (marked_below marks.now (length arch.now.handlers)))) }
+/// For each handler, the words of its frame and buffers.
+fn frames(alloc: Global, arch: &Arch) -> Result<Items<u64>, NoMemory>
+    ensures { IfOk result (IsTable (length arch.now.handlers) (frame_of arch.now)) }
 {
-    let mut total: u64 = 0;
-    for k in 0..arch.handlers().len() {
-        if marks[k] {
-            total = total.saturating_add(memory_of(arch, arch.handler(k as u32)));
-        }
+    let mut frames = Items::new(alloc);
+    for h in 0..arch.handlers().len() {
+        let handler = arch.handler(h as u32);
+        frames.push(memory_of(arch, handler))?;
     }
-    total
+    Ok(frames)
 }
 
-/// The words of a source's task.
-fn task_words(alloc: Global, arch: &Arch, heard: &[Items<u32>], s: u32) -> Result<u64, NoMemory>
+/// The words of a source's task, by those of the handlers.
+fn task_words(
+    alloc: Global,
+    arch: &Arch,
+    heard: &[Items<u32>],
+    frames: &[u64],
+    s: u32,
+) -> Result<u64, NoMemory>
     requires heard { AreAudiences arch.now (length arch.now.handlers) heard.now }
     requires listed { AreListeners arch.now }
+    requires frames { IsTable (length arch.now.handlers) (frame_of arch.now) frames.now }
     requires source { s < length arch.now.sources }
     ensures { IfOk result (λ n. n ≡ saturated (source_memory arch.now s)) }
 {
-    let marks = reach_from(alloc, arch, heard, Start::Source(s))?;
-    let frames = handlers_words(arch, marks.as_slice());
+    let handlers = reached_sum(alloc, arch, heard, frames, s)?;
     let message = words_on(arch, On::Source(s)).saturating_add(64);
-    Ok(message.saturating_add(frames))
+    Ok(message.saturating_add(handlers))
 }
 
 /// The words of all states and, for each source, of its message and of the frames and buffers of the handlers that it
@@ -150,9 +152,10 @@ pub fn memory(alloc: Global, arch: &Arch) -> Result<u64, NoMemory>
     ensures { IfOk result (λ n. n ≡ saturated (memory arch.now)) }
 {
     let heard = audiences(alloc, arch)?;
+    let frames = frames(alloc, arch)?;
     let mut total = states_words(arch);
     for s in 0..arch.sources().len() {
-        let task = task_words(alloc, arch, heard.as_slice(), s as u32)?;
+        let task = task_words(alloc, arch, heard.as_slice(), frames.as_slice(), s as u32)?;
         total = total.saturating_add(task);
     }
     Ok(total)
