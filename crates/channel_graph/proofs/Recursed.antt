@@ -7,13 +7,13 @@ use Rattle.tower_syntax.specs.declared.arch.Listener.{Listener}
 use Rattle.tower_syntax.specs.declared.arch.Listener.TheVariants as to
 use Rattle.tower_syntax.specs.Arch.{Arch, Emitter}
 use Rattle.tower_syntax.specs.Graph.{handler, subs, is_handler, leads, Reaches, begins, goes}
-use Rattle.tower_syntax.specs.Weights.{section, subscribers_weight, emitter_words, emitter_weight, deliver_within}
+use Rattle.tower_syntax.specs.Weights.{section, subscribers_weight, emitter_words, emitter_weight, message_words, deliver_within, deliver}
 use Rattle.tower_syntax.specs.WellNumbered.{AreListeners}
 use Rattle.channel_graph.specs.Circuit.{IsAcyclic}
 use Rattle.channel_graph.specs.Chain.{LeadsAlong, IsWalk}
 use Rattle.channel_graph.specs.Table.{further}
-use Rattle.channel_graph.specs.Laws.{IsDelivery, DeliverRecurs, DeliverIsOnly}
-use Rattle.channel_graph.proofs.Members.{In, has_any}
+use Rattle.channel_graph.specs.Laws.{IsDelivery, DeliverRecurs, DeliverIsOnly, CostFollows}
+use Rattle.channel_graph.proofs.Members.{In, has_any, contains_from_In}
 use Rattle.channel_graph.proofs.Walked.{walk_is_short}
 
 -- ---- only what a handler leads to counts
@@ -106,3 +106,9 @@ pub deliver_is_only : DeliverIsOnly
 deliver_is_only arch s of_handler listed acyclic exists delivers h reach =
     let r = reached_short arch s h listed acyclic exists reach in
     round_only arch s of_handler delivers r.most (length arch.handlers) h r.is r.few reach
+
+pub cost_follows : CostFollows
+cost_follows arch s of_handler listed acyclic exists delivers =
+    let on_it = subs arch (on.Source s) in
+    ap (λ n. 64 + n) (subscribers_agree (deliver arch) of_handler (message_words arch (on.Source s)) on_it (λ k m.
+    sym (deliver_is_only arch s of_handler listed acyclic exists delivers k (begins k (contains_from_In on_it (to.Handler k) m)))))

@@ -1,8 +1,9 @@
 -- What the laws say of the definitions.
 use Rattle.std.specs.Prelude.{ℕ, ◌+◌, ◌<◌, ◌≡◌, ◌↔◌, Some, length, map, sum}
+use Rattle.tower_syntax.specs.declared.arch.On.TheVariants as on
 use Rattle.tower_syntax.specs.Arch.{Arch}
-use Rattle.tower_syntax.specs.Graph.{handler, Reaches}
-use Rattle.tower_syntax.specs.Weights.{section, emitter_weight, deliver}
+use Rattle.tower_syntax.specs.Graph.{handler, subs, Reaches}
+use Rattle.tower_syntax.specs.Weights.{section, emitter_weight, subscribers_weight, message_words, deliver, cost}
 use Rattle.tower_syntax.specs.WellNumbered.{AreListeners}
 use Rattle.channel_graph.specs.declared.circuit.CycleFound.{CycleFound}
 use Rattle.channel_graph.specs.Circuit.{IsAcyclic, shown}
@@ -21,6 +22,11 @@ DeliverRecurs = (arch : Arch) (s : ℕ) → AreListeners arch → IsAcyclic arch
 abbrev pub DeliverIsOnly : Type 0
 DeliverIsOnly =
     (arch : Arch) (s : ℕ) (of_handler : ℕ → ℕ) → AreListeners arch → IsAcyclic arch → s < length arch.sources → IsDelivery arch s of_handler → (h : ℕ) → Reaches arch s h → of_handler h ≡ deliver arch h
+
+-- so the cost of a source is the one that any such recursion gives
+abbrev pub CostFollows : Type 0
+CostFollows =
+    (arch : Arch) (s : ℕ) (of_handler : ℕ → ℕ) → AreListeners arch → IsAcyclic arch → s < length arch.sources → IsDelivery arch s of_handler → cost arch s ≡ 64 + subscribers_weight of_handler (message_words arch (on.Source s)) (subs arch (on.Source s))
 
 -- `shown` computes the one cycle that is shown
 abbrev pub ShownIs : Type 0

@@ -1,7 +1,7 @@
 //! Laws of the definitions, and worked cases. The bodies are empty: the check proves or computes what the
 //! contracts say.
 
-ghost use Rattle.channel_graph.specs.Laws.{DeliverRecurs, DeliverIsOnly, ShownIs};
+ghost use Rattle.channel_graph.specs.Laws.{DeliverRecurs, DeliverIsOnly, CostFollows, ShownIs};
 ghost use Rattle.channel_graph.specs.Worked.{WorkedGraph};
 
 /// Cycles that are shown, what sources reach, and counts of messages of some systems.
@@ -10,10 +10,12 @@ pub fn worked_graph()
 {}
 
 /// Where no source reaches a cycle, a handler that one reaches costs its section and all that its emitters hold, each
-/// message with what the handlers on its channel cost. `deliver` says that of each such handler, and nothing else does.
+/// message with what the handlers on its channel cost. `deliver` says that of each such handler, and nothing else does,
+/// so the cost of a source follows from it.
 pub fn deliver_law()
     ensures recurs { DeliverRecurs }
     ensures only { DeliverIsOnly }
+    ensures cost { CostFollows }
 {}
 
 /// The cycle that is shown is that of the least source that reaches a handler which leads back to itself. From the
