@@ -284,7 +284,7 @@ verdict_is bs v e = subst (Answers bs) e (verdict_answers bs)
 
 -- A text spells one tree or has one fault.
 
-one_tree : (bs : List ℕ) (r q : Raw Id) → Spells bs r → Spells bs q → r ≡ q
+pub one_tree : (bs : List ℕ) (r q : Raw Id) → Spells bs r → Spells bs q → r ≡ q
 one_tree bs r q s t =
     let e : tree s.node no_trees ≡ tree t.node no_trees = spelled_is _ _ s.spelled ∙ sym (spelled_is _ _ t.spelled) in
     let k : s.node ≡ t.node = cc in
@@ -297,7 +297,7 @@ no_offence bs r o s h =
     let k : file_offences bs ≡ [] = ap (offences_in row.File 0) (sym (spelled_is _ _ s.spelled)) ∙ e in
     subst (Among o) k (of_text bs o h)
 
-not_both : (bs : List ℕ) (r : Raw Id) (f : ReadFault) → Spells bs r → TextOffends bs f → ⊥
+pub not_both : (bs : List ℕ) (r : Raw Id) (f : ReadFault) → Spells bs r → TextOffends bs f → ⊥
 not_both bs r (fault.Long limit) s h = omega (arith, h.1, s.within)
 not_both bs r (fault.Byte x) s h = s.faultless (token.Byte x) h
 not_both bs r (fault.Unopened x) s h = s.faultless (token.Unopened x) h

@@ -1,0 +1,12 @@
+pub mod Trees
+pub mod Order
+pub mod Numbers
+pub mod Shown
+pub mod Greatest
+pub mod Works
+pub mod Limited
+pub mod Told
+pub mod Lists
+pub mod TypesCounted
+pub mod TypesWritten
+pub mod Accepted

@@ -1,0 +1,69 @@
+-- What all elements of a list keep, by recursion, and the greatest of some numbers.
+use Rattle.std.proofs.Common.{inl, inr, ◌≤◌, ℕ, List, [], ◌∷◌, ◌++◌, map, refl, sym, subst, arith}
+use Rattle.arch_types.specs.Outline.{each}
+use Rattle.channel_graph.proofs.Members.{In}
+use Rattle.arch_checks.specs.Sizes.{greatest}
+
+abbrev pub AllOf : {X : Type 0} → (X → Type 0) → List X → Type 0
+AllOf P [] = Unit {0}
+AllOf P (x ∷ xs) = P x × AllOf P xs
+
+pub all_of : {X : Type 0} (P : X → Type 0) (xs : List X) → ((x : X) → In x xs → P x) → AllOf P xs
+all_of P [] h = tt
+all_of P (x ∷ xs) h = (h x (inl refl), all_of P xs (λ y i. h y (inr i)))
+
+pub of_all : {X : Type 0} (P : X → Type 0) (xs : List X) (x : X) → AllOf P xs → In x xs → P x
+of_all P [] x h i = absurd i
+of_all P (y ∷ ys) x h (inl e) = subst P (sym e) h.0
+of_all P (y ∷ ys) x h (inr i) = of_all P ys x h.1 i
+
+pub both : {X : Type 0} (P : X → Type 0) (xs ys : List X) → AllOf P xs → AllOf P ys → AllOf P (xs ++ ys)
+both P [] ys h k = k
+both P (x ∷ xs) ys h k = (h.0, both P xs ys h.1 k)
+
+pub front : {X : Type 0} (P : X → Type 0) (xs ys : List X) → AllOf P (xs ++ ys) → AllOf P xs
+front P [] ys h = tt
+front P (x ∷ xs) ys h = (h.0, front P xs ys h.1)
+
+pub back : {X : Type 0} (P : X → Type 0) (xs ys : List X) → AllOf P (xs ++ ys) → AllOf P ys
+back P [] ys h = h
+back P (x ∷ xs) ys h = back P xs ys h.1
+
+pub all_each : {X Y : Type 0} (P : Y → Type 0) (of : X → List Y) (xs : List X) → ((x : X) → In x xs → AllOf P (of x)) → AllOf P (each of xs)
+all_each P of [] h = tt
+all_each P of (x ∷ xs) h = both P (of x) (each of xs) (h x (inl refl)) (all_each P of xs (λ y i. h y (inr i)))
+
+pub each_all : {X Y : Type 0} (P : Y → Type 0) (of : X → List Y) (xs : List X) (x : X) → AllOf P (each of xs) → In x xs → AllOf P (of x)
+each_all P of [] x h i = absurd i
+each_all P of (y ∷ ys) x h (inl e) = subst (λ z. AllOf P (of z)) (sym e) (front P (of y) (each of ys) h)
+each_all P of (y ∷ ys) x h (inr i) = each_all P of ys x (back P (of y) (each of ys) h) i
+
+pub all_map : {X Y : Type 0} (P : Y → Type 0) (f : X → Y) (xs : List X) → AllOf (λ x. P (f x)) xs → AllOf P (map f xs)
+all_map P f [] h = tt
+all_map P f (x ∷ xs) h = (h.0, all_map P f xs h.1)
+
+pub map_all : {X Y : Type 0} (P : Y → Type 0) (f : X → Y) (xs : List X) → AllOf P (map f xs) → AllOf (λ x. P (f x)) xs
+map_all P f [] h = tt
+map_all P f (x ∷ xs) h = (h.0, map_all P f xs h.1)
+
+in_front : {X : Type 0} (x : X) (xs ys : List X) → In x xs → In x (xs ++ ys)
+in_front x [] ys i = absurd i
+in_front x (y ∷ xs) ys (inl e) = inl e
+in_front x (y ∷ xs) ys (inr i) = inr (in_front x xs ys i)
+
+in_back : {X : Type 0} (x : X) (xs ys : List X) → In x ys → In x (xs ++ ys)
+in_back x [] ys i = i
+in_back x (y ∷ xs) ys i = inr (in_back x xs ys i)
+
+pub in_each : {X Y : Type 0} (of : X → List Y) (xs : List X) (x : X) (y : Y) → In x xs → In y (of x) → In y (each of xs)
+in_each of [] x y i j = absurd i
+in_each of (z ∷ zs) x y (inl e) j = in_front y (of z) (each of zs) (subst (λ w. In y (of w)) e j)
+in_each of (z ∷ zs) x y (inr i) j = in_back y (of z) (each of zs) (in_each of zs x y i j)
+
+pub greatest_below : (ns : List ℕ) (k : ℕ) → AllOf (λ n. n ≤ k) ns → greatest ns ≤ k
+greatest_below [] k h = omega arith
+greatest_below (n ∷ ns) k h = let r = greatest_below ns k h.1 in omega (arith, h.0, r)
+
+pub below_greatest : (ns : List ℕ) (k : ℕ) → greatest ns ≤ k → AllOf (λ n. n ≤ k) ns
+below_greatest [] k h = tt
+below_greatest (n ∷ ns) k h = (omega (arith, h), below_greatest ns k (omega (arith, h)))
