@@ -10,4 +10,6 @@ pub mod States
 pub mod Listed
 pub mod Steps
 pub mod Fitting
+pub mod Parts
+pub mod Walks
 pub mod Rows

@@ -14,7 +14,17 @@ use Rattle.tower_types.specs.declared.scalar.BinOp.TheVariants as op
 use Rattle.task_code.specs.Program.{Program}
 use Rattle.task_code.specs.Does.{does, need, popped, indexed, with_lock, without_lock}
 use Rattle.tower_report.specs.declared.rule.Rule.TheVariants as rule
+use Rattle.tower_syntax.specs.declared.arch.On.TheVariants as on
+use Rattle.tower_syntax.specs.declared.arch.Listener.TheVariants as to
+use Rattle.tower_syntax.specs.declared.body.Root.TheVariants.{State}
+use Rattle.tower_syntax.specs.Tree.{lit, read, bin, place, no_steps, set, no_stmts, stmt}
+use Rattle.arch_names.specs.declared.fault.Sort.TheVariants as sort
+use Rattle.arch_types.specs.declared.fault.Want.TheVariants as want
+use Rattle.arch_checks.specs.declared.fault.What.TheVariants as what
+use Rattle.arch_checks.specs.declared.fault.Fault.TheVariants as fault
 use Rattle.tower_report.specs.Bytes.{Bytes}
+use Rattle.tower_report.specs.CheckText.{check_text}
+use Rattle.tower_report.specs.FaultText.{fault_line}
 use Rattle.tower_report.specs.ValueText.{words_text, value_text}
 use Rattle.tower_report.specs.MarkText.{mark_line, out_line}
 use Rattle.tower_report.specs.EndText.{monitor_text, losses_text}
@@ -121,3 +131,67 @@ a_replay = refl
 a_misfit : replay_text counter ticking (replicate 10 mark.Arrive ++ (mark.Start 0 ∷ mark.Start 0 ∷ mark.Arrive ∷ [])) ≡ lines (codes "state count n 0" ∷ codes "waiting beat 0" ∷ codes "pending beat 0" ∷ codes "misfit 12" ∷ [])
 unfolding digits
 a_misfit = refl
+
+-- ---- checks
+
+abbrev no_parts : Arch
+no_parts = record {
+  version = 1;
+  name = codes "none";
+  records = [];
+  record_names = [];
+  sources = [];
+  channels = [];
+  outputs = [];
+  monitors = [];
+  handlers = [];
+  listeners = [];
+}
+
+a_check_of_none : check_text no_parts ≡ lines (codes "tower none" ∷ codes "records 0 sources 0 channels 0 outputs 0 monitors 0 handlers 0" ∷ codes "memory 0" ∷ codes "code 0" ∷ codes "ok" ∷ [])
+unfolding digits
+a_check_of_none = refl
+
+-- the counter with the handler that counts
+abbrev counting : Arch
+counting = record counter {
+  handlers =
+      record {
+        name = codes "tick";
+        monitor = 0;
+        on = on.Source 0;
+        emitters = [];
+        callbacks = record { param = codes "t"; binders = []; stmts = stmt (set (place (State 0) no_steps) (bin op.Add scalar.U32 (read (place (State 0) no_steps)) (lit scalar.U32 (pos 1)))) no_stmts } ∷ [];
+      }
+      ∷ [];
+  listeners = to.Handler 0 ∷ [];
+}
+
+a_check : check_text counting ≡ lines (codes "tower clock" ∷ codes "records 0 sources 1 channels 0 outputs 0 monitors 1 handlers 1" ∷ codes "cost beat 216" ∷ codes "memory 132" ∷ codes "code 216" ∷ codes "ok" ∷ [])
+unfolding digits
+a_check = refl
+
+-- ---- faults
+
+a_bound : fault_line (fault.Bound (codes "h") (codes "e") 4 3) ≡ lines (codes "refused: bound h e 4 3" ∷ [])
+unfolding digits
+a_bound = refl
+
+a_cycle : fault_line (fault.Cycle (codes "s") (codes "h" ∷ codes "k" ∷ [])) ≡ lines (codes "refused: cycle s h k h" ∷ [])
+a_cycle = refl
+
+a_second : fault_line (fault.Twice 34 17) ≡ lines (codes "refused: twice 34 17" ∷ [])
+unfolding digits
+a_second = refl
+
+a_kind : fault_line (fault.Kind 30 sort.Channel sort.Source) ≡ lines (codes "refused: kind 30 channel source" ∷ [])
+unfolding digits
+a_kind = refl
+
+a_mismatch : fault_line (fault.Mismatch 82 (want.Exactly (codes "u16")) (codes "u8")) ≡ lines (codes "refused: mismatch 82 u16 u8" ∷ [])
+unfolding digits
+a_mismatch = refl
+
+a_size : fault_line (fault.Size what.Sources 65 64) ≡ lines (codes "refused: size sources 65 64" ∷ [])
+unfolding digits
+a_size = refl

@@ -6,4 +6,5 @@ pub mod RunText
 pub mod ReplayText
 pub mod Puts
 pub mod Worked
-pub mod RefusalText
+pub mod CheckText
+pub mod FaultText

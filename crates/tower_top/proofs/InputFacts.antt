@@ -4,9 +4,8 @@ use Rattle.std.specs.Prelude.{IfSome}
 use Rattle.std.proofs.lemmas.Fmt.{length-decimal-le}
 use Rattle.tower_reader.specs.declared.fault.ReadFault.{ReadFault}
 use Rattle.tower_reader.specs.declared.fault.ReadFault.TheVariants as fault
-use Rattle.tower_reader.specs.Faults.{TextOffends, Precedes}
-use Rattle.tower_top.specs.declared.inputs.Refusal.TheVariants as refusal
-use Rattle.tower_top.specs.Answers.{IsNoTicks, IsRefused}
+use Rattle.tower_reader.specs.Faults.{TextOffends, Precedes, IsFault}
+use Rattle.tower_top.specs.Answers.{IsNoTicks}
 use Rattle.tower_top.specs.Small.{IsNotSmall}
 use Rattle.tower_top.specs.Ticks.{IsTicks}
 
@@ -45,5 +44,5 @@ long_first text (fault.Number at) o = inr (inl (omega arith))
 long_first text (fault.Length at) o = inr (inl (omega arith))
 long_first text fault.NoMemory o = absurd o
 
-pub long_refused : (text : List ℕ) → 1048576 < length text → IsRefused text (refusal.Fault (fault.Long 1048576))
-long_refused text h = (not_small text (omega (arith, h)), record { offends = (refl, h); precedes = long_first text })
+pub long_fault : (text : List ℕ) → 1048576 < length text → IsFault text (fault.Long 1048576)
+long_fault text h = record { offends = (refl, h); precedes = long_first text }

@@ -1,5 +1,7 @@
 pub mod Ended
 pub mod Few
+pub mod Exact
+pub mod FileFacts
 pub mod InputFacts
 pub mod Quiet
 pub mod RunFacts

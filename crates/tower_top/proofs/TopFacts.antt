@@ -28,6 +28,14 @@ module _ (held : Held) (words : List (List ℕ)) (blamed : List ℕ) (faults out
   line_ends s answered put.Failed text is done part rose none calm =
       record { rose = inr rose; out_text = []; err_text = text; due = due s [] text is calm; out_gets = none_is_prefix out none; err_gets = part }
 
+  -- a text on `out`, with nothing on `err`
+  pub text_ends : (s : Status) → (Answers held words s out err → ends s) → (r : Put) (text : Bytes) → IsDue held words s text []
+      → OnDone r (Gets out text) → OnPutFailed r (GetsPrefix out text) → OnPutFailed r (HasRisen out_faults) → Gets err [] → faults.after ≡ faults.before → ends (status_after r s)
+  text_ends s answered put.Done text is done part rose none calm =
+      answered (record { out_text = text; err_text = []; due = is; out_gets = done; err_gets = none })
+  text_ends s answered put.Failed text is done part rose none calm =
+      record { rose = inl rose; out_text = text; err_text = []; due = due s text [] is calm; out_gets = part; err_gets = none_is_prefix err none }
+
   -- the line that an input could not be read
   pub unread_ends : (r : Put) → IsUnread held words blamed → HasRisen faults
       → OnDone r (Gets err (unread_line blamed)) → OnPutFailed r (GetsPrefix err (unread_line blamed)) → OnPutFailed r (HasRisen err_faults) → Gets out [] → ends (status_after r ReadFault)

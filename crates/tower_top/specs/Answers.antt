@@ -1,7 +1,7 @@
 -- What a call of `tower` answers and writes.
 use Rattle.std.specs.Prelude.{◌≡◌, ◌⊎◌, ◌<◌, ℕ, List, [], ◌∷◌, ◌++◌, Option, None, IfSome, codes, Bool, true, false}
 use Rattle.tower_syntax.specs.declared.arch.SourceKind.TheVariants.{Period}
-use Rattle.tower_syntax.specs.Arch.{Events}
+use Rattle.tower_syntax.specs.Arch.{Arch, Events}
 use Rattle.tower_io.specs.declared.answers.Put.{Put}
 use Rattle.tower_io.specs.declared.answers.Put.TheVariants as put
 use Rattle.tower_io.specs.Faults.{Rose}
@@ -11,17 +11,15 @@ use Rattle.task_code.specs.Plan.{plan}
 use Rattle.task_build.specs.CodeOf.{code_of}
 use Rattle.tower_report.specs.Bytes.{Bytes, line}
 use Rattle.tower_report.specs.RunText.{run_text}
-use Rattle.tower_report.specs.RefusalText.{refusal_line}
-use Rattle.tower_syntax.specs.RawTree.{Id, Raw}
-use Rattle.tower_reader.specs.Spelled.{Spells as SpellsRaw}
-use Rattle.tower_reader.specs.Faults.{IsFault}
-use Rattle.tower_top.specs.declared.inputs.Refusal.{Refusal}
-use Rattle.tower_top.specs.declared.inputs.Refusal.TheVariants as refusal
+use Rattle.tower_report.specs.CheckText.{check_text}
+use Rattle.tower_report.specs.FaultText.{fault_line}
+use Rattle.arch_checks.specs.declared.fault.Fault.{Fault}
+use Rattle.arch_checks.specs.Offences.{IsFault, IsAccepted}
 use Rattle.tower_top.specs.declared.status.Status.{Status}
 use Rattle.tower_top.specs.declared.status.Status.TheVariants.{Done, Refused, Usage, ReadFault, WriteFault, NoMemory, BadInput, Stopped, No}
 use Rattle.tower_top.specs.declared.run.Ran.{Ran}
 use Rattle.tower_top.specs.declared.run.Ran.TheVariants as ran
-use Rattle.tower_top.specs.Words.{AsksRun, AsksNothing}
+use Rattle.tower_top.specs.Words.{AsksCheck, AsksRun, AsksWith, AsksNothing}
 use Rattle.tower_top.specs.Small.{Small, Spells, IsNotSmall, arch_of}
 use Rattle.tower_top.specs.Ticks.{IsTicks, tick_entries}
 
@@ -67,15 +65,6 @@ Held = List ℕ → Option (List ℕ)
 abbrev pub IsHeld : Held → List ℕ → List ℕ → Type 0
 IsHeld held name text = IfSome (held name) (λ told. told ≡ text)
 
--- why a text is refused: for its fault, or since it has none and is no small file
-abbrev pub IsRefused : List ℕ → Refusal → Type 0
-IsRefused text (refusal.Fault f) = IsNotSmall text × IsFault text f
-IsRefused text refusal.NotYet = IsNotSmall text × ((raw : Raw Id) × SpellsRaw text raw)
-
-abbrev pub refused_line : Refusal → Bytes
-refused_line (refusal.Fault f) = refusal_line f
-refused_line refusal.NotYet = not_yet_line
-
 -- the record is no line of ticks
 abbrev pub IsNoTicks : List ℕ → Type 0
 IsNoTicks text = (n : ℕ) → IsTicks text n → ⊥
@@ -83,16 +72,23 @@ IsNoTicks text = (n : ℕ) → IsTicks text n → ⊥
 -- the status that is due, with the texts that are due on `out` and on `err`
 pub data IsDue (held : Held) (words : List (List ℕ)) : Status → Bytes → Bytes → Type 0 where
   no_command : AsksNothing words → IsDue held words Usage [] usage_line
-  refused : (file name text : List ℕ) (why : Refusal) → AsksRun words file name → IsHeld held file text → IsRefused text why → IsDue held words Refused [] (refused_line why)
-  bad_record : (file name text record_text : List ℕ) (s : Small) → AsksRun words file name → IsHeld held file text → Spells text s
+  -- FILE has a fault
+  refused : (file text : List ℕ) (f : Fault) → AsksWith words file → IsHeld held file text → IsFault text f → IsDue held words Refused [] (fault_line f)
+  -- FILE is accepted
+  checks : (file text : List ℕ) (arch : Arch) → AsksCheck words file → IsHeld held file text → IsAccepted text arch → IsDue held words Done (check_text arch) []
+  -- FILE is accepted, and it is no small file
+  not_yet : (file name text : List ℕ) (arch : Arch) → AsksRun words file name → IsHeld held file text → IsAccepted text arch → IsNotSmall text
+      → IsDue held words Refused [] not_yet_line
+  bad_record : (file name text record_text : List ℕ) (arch : Arch) (s : Small) → AsksRun words file name → IsHeld held file text → IsAccepted text arch → Spells text s
       → IsHeld held name record_text → IsNoTicks record_text → IsDue held words BadInput [] bad_record_line
-  runs : (file name text record_text : List ℕ) (s : Small) (n : ℕ) → AsksRun words file name → IsHeld held file text → Spells text s
+  runs : (file name text record_text : List ℕ) (arch : Arch) (s : Small) (n : ℕ) → AsksRun words file name → IsHeld held file text → IsAccepted text arch → Spells text s
       → IsHeld held name record_text → IsTicks record_text n → IsDue held words Done (small_run_text s n) []
 
 -- an input could not be read: FILE, or the record where FILE has no fault
 pub data IsUnread (held : Held) (words : List (List ℕ)) : List ℕ → Type 0 where
-  file_unread : (file name : List ℕ) → AsksRun words file name → IsUnread held words file
-  record_unread : (file name text : List ℕ) (s : Small) → AsksRun words file name → IsHeld held file text → Spells text s → IsUnread held words name
+  file_unread : (file : List ℕ) → AsksWith words file → IsUnread held words file
+  record_unread : (file name text : List ℕ) (arch : Arch) (s : Small) → AsksRun words file name → IsHeld held file text → IsAccepted text arch → Spells text s
+      → IsUnread held words name
 
 -- ---- how a call ends
 

@@ -1,4 +1,5 @@
 pub mod Answers
+pub mod File
 pub mod Inputs
 pub mod Quiet
 pub mod Small

@@ -1,21 +1,18 @@
 //! The inputs of a run, read and tested.
-ghost use Rattle.std.specs.Prelude.{◌≡◌, ◌≤◌, List, ℕ, IfOk, IfErr};
+ghost use Rattle.std.specs.Prelude.{◌≡◌, ◌⊎◌, ◌≤◌, ◌↔◌, List, ℕ, IfOk, IfErr, IsTrue};
 ghost use Rattle.tower_io.specs.Faults.{Rose};
-ghost use Rattle.tower_top.specs.Answers.{IsHeld, IsNoTicks, IsRefused};
+ghost use Rattle.arch_checks.specs.Offences.{IsFault};
+ghost use Rattle.tower_top.specs.Answers.{IsHeld, IsNoTicks};
+ghost use Rattle.tower_top.specs.File.{IsFile, IsCheckedFile};
 ghost use Rattle.tower_top.specs.Inputs.{OnValid, OnWrong, OnUnread, UnlessUnread};
-ghost use Rattle.tower_top.specs.Small.{Spells};
-ghost use Rattle.tower_top.specs.SmallView.{small_of};
 ghost use Rattle.tower_top.specs.Ticks.{IsTicks};
 
-use crate::small::{Small, small_file};
+use crate::file::{File, read_file};
+use crate::small::Small;
 use crate::ticks::ticks_of;
+use arch_checks::{Checked, Fault, check_raw};
 use std::alloc::Global;
 use tower_io::{Fetch, Shelf, fetch};
-use tower_reader::{ReadFault, read_raw};
-use tower_types::NoMemory;
-
-/// The greatest length of FILE in bytes.
-const TEXT_LIMIT: usize = 1_048_576;
 
 /// The greatest length of a record in bytes.
 const RECORD_LIMIT: usize = 16_777_216;
@@ -31,34 +28,38 @@ pub enum Input<T, W> {
     NoMemory,
 }
 
-/// Why a file is refused.
-#[derive(Clone, Copy, Debug, PartialEq, Eq)]
-pub enum Refusal {
-    /// Its text has a fault.
-    Fault(ReadFault),
-    /// Its text has none, and it is no small file.
-    NotYet,
+/// FILE, which is accepted.
+#[derive(Drop)]
+pub struct CheckedFile {
+    pub checked: Checked,
+    /// What it is as a small file, if it is one.
+    pub small: Option<Small>,
 }
 
-/// The small file that a text is, or why it is refused.
-fn small_or_refused(alloc: Global, text: &[u8]) -> Result<Result<Small, Refusal>, NoMemory>
-    ensures small { IfOk result (λ answer. IfOk answer (λ small. Spells text.now (small_of small))) }
-    ensures refused { IfOk result (λ answer. IfErr answer (IsRefused text.now)) }
+/// Checks a file that was read.
+fn check_file(alloc: Global, file: File) -> Result<CheckedFile, Fault>
+    requires spelled { (text : List ℕ) × IsFile text file }
+    ensures checked { (text : List ℕ) → IsFile text file → IfOk result (IsCheckedFile text) }
+    ensures fault { (text : List ℕ) → IsFile text file → IfErr result (λ f. (f ≡ Fault.NoMemory) ⊎ IsFault text f) }
 {
-    if let Some(small) = small_file(alloc, text)? {
-        return Ok(Ok(small));
-    }
-    match read_raw(alloc, text) {
-        Ok(_) => Ok(Err(Refusal::NotYet)),
-        Err(ReadFault::NoMemory) => Err(NoMemory),
-        Err(fault) => Ok(Err(Refusal::Fault(fault))),
+    let File { raw, small } = file;
+    match check_raw(alloc, &raw) {
+        Ok(checked) => Ok(CheckedFile { checked, small }),
+        Err(fault) => Err(fault),
     }
 }
 
-/// Reads FILE, where it is a small one.
-pub fn read_small<F: Shelf>(alloc: Global, shelf: &mut F, name: &str) -> Input<Small, Refusal>
-    ensures valid { OnValid result (λ small. (text : List ℕ) × IsHeld (F.held shelf.old) name.now text × Spells text (small_of small)) }
-    ensures wrong { OnWrong result (λ why. (text : List ℕ) × IsHeld (F.held shelf.old) name.now text × IsRefused text why) }
+/// Whether a fault tells of memory.
+fn is_no_memory(fault: &Fault) -> bool
+    ensures { IsTrue result ↔ (fault.now ≡ Fault.NoMemory) }
+{
+    matches!(fault, Fault::NoMemory)
+}
+
+/// Reads and checks FILE.
+pub fn read_checked<F: Shelf>(alloc: Global, shelf: &mut F, name: &str) -> Input<CheckedFile, Fault>
+    ensures valid { OnValid result (λ file. (text : List ℕ) × IsHeld (F.held shelf.old) name.now text × IsCheckedFile text file) }
+    ensures wrong { OnWrong result (λ fault. (text : List ℕ) × IsHeld (F.held shelf.old) name.now text × IsFault text fault) }
 
     ensures rose { OnUnread result (Rose (F.faults shelf.old) (F.faults shelf.new)) }
     ensures blames { OnUnread result (F.blamed shelf.new ≡ name.now) }
@@ -67,18 +68,20 @@ pub fn read_small<F: Shelf>(alloc: Global, shelf: &mut F, name: &str) -> Input<S
     ensures never_falls { F.faults shelf.old ≤ F.faults shelf.new }
     ensures holds { F.held shelf.new ≡ F.held shelf.old }
 {
-    let mut text = Vec::new(alloc);
-    match fetch(alloc, shelf, name, TEXT_LIMIT, &mut text) {
-        Fetch::Done => match small_or_refused(alloc, text.as_slice()) {
-            Ok(Ok(small)) => Input::Valid(small),
-            Ok(Err(why)) => Input::Wrong(why),
-            Err(_) => Input::NoMemory,
-        },
-        Fetch::Long => Input::Wrong(Refusal::Fault(ReadFault::Long {
-            limit: TEXT_LIMIT as u64,
-        })),
-        Fetch::Failed => Input::Unread,
-        Fetch::NoMemory => Input::NoMemory,
+    let file = match read_file(alloc, shelf, name) {
+        Input::Valid(file) => file,
+        Input::Wrong(fault) => return Input::Wrong(Fault::from(fault)),
+        Input::Unread => return Input::Unread,
+        Input::NoMemory => return Input::NoMemory,
+    };
+    match check_file(alloc, file) {
+        Ok(file) => Input::Valid(file),
+        Err(fault) => {
+            if is_no_memory(&fault) {
+                return Input::NoMemory;
+            }
+            Input::Wrong(fault)
+        }
     }
 }
 

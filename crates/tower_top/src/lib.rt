@@ -4,6 +4,7 @@
 mod arch;
 mod compile;
 mod ending;
+mod file;
 mod inputs;
 pub mod laws;
 mod run;

@@ -1,4 +1,6 @@
 //! The answers of the top call, each with what it wrote.
+ghost use Rattle.std.specs.Prelude.{◌≤◌};
+
 use crate::{Status, tower};
 use std::alloc::{AllocError, Global};
 use std::test::Fail;
@@ -14,6 +16,18 @@ const NARROW: &str =
 /// The text of `clock` over 25 ticks: a message at every tenth, and twelve instructions for each.
 const TEXT: &str =
     "0 a\n0 a\n0 a\n0 a\n0 a\n0 a\n0 a\n0 a\n0 a\n0 a\n1 s beat\n10 r beat\n12 a\n12 a\n12 a\n12 a\n12 a\n12 a\n12 a\n12 a\n12 a\n12 a\n13 s beat\n22 r beat\n24 a\n24 a\n24 a\n24 a\n24 a\nstate count n 2\ncount 24\ndone\n";
+
+/// A file with every kind of source, a record and an array.
+const FLIGHT: &str =
+    "(tower flight\n (record att (field roll i32) (field pitch i32))\n (init boot 250) (period fast 1 200) (period mid 5 150) (period slow 20 100)\n (signal gps att 180) (signal cmd i32 160)\n (channel rate i32) (channel pose att) (channel motor i32) (channel beat u8)\n (output pwm motor) (output radio beat)\n (monitor gyro (state raw i32)\n  (handler gyro_init boot (callback t (set raw (i32 100))))\n  (handler sample fast (emitter e rate 1)\n   (callback t (set raw (+ raw (cast i32 t))) (emit e raw))))\n (monitor fuse\n  (state now att) (state hist (array 4 i32)) (state pos (ix 4))\n  (handler on_rate rate\n   (callback w (set (at hist pos) w) (set pos (+ pos (ix 4 1)))))\n  (handler on_gps gps (callback p (copy now p)))\n  (handler publish mid (emitter e pose 1)\n   (callback t\n    (local sum i32)\n    (for i 4 (set sum (+ sum (at hist i))))\n    (set (get now roll) (/ sum (i32 4)))\n    (emit e now))))\n (monitor ctl (state goal i32)\n  (handler on_cmd cmd (callback v (set goal v)))\n  (handler steer pose (emitter e motor 1)\n   (callback p (emit e (- goal (get p roll))))))\n (monitor life (state n u8)\n  (handler alive slow (emitter e beat 1)\n   (callback t (set n (+ n (u8 1))) (emit e n)))))\n";
+
+/// What it weighs.
+const FLIGHT_CHECK: &str =
+    "tower flight\nrecords 1 sources 6 channels 4 outputs 2 monitors 4 handlers 8\ncost boot 206\ncost fast 564\ncost mid 1070\ncost slow 432\ncost gps 312\ncost cmd 212\nmemory 952\ncode 2482\nok\n";
+
+/// What `clock` weighs.
+const CLOCK_CHECK: &str =
+    "tower clock\nrecords 0 sources 1 channels 0 outputs 0 monitors 1 handlers 1\ncost beat 216\nmemory 132\ncode 216\nok\n";
 
 const USAGE: &str = "usage: towerc COMMAND FILE [OPTIONS]\n";
 
@@ -86,6 +100,21 @@ fn answers_by_name(rt: HostRuntime) -> Result<(), Fail> {
         ("towerc run clock", Status::Usage, "", USAGE),
         ("towerc run clock --record", Status::Usage, "", USAGE),
         ("towerc run clock --records ticks", Status::Usage, "", USAGE),
+        ("towerc check clock", Status::Done, CLOCK_CHECK, ""),
+        (
+            "towerc check open",
+            Status::Refused,
+            "",
+            "refused: unclosed 0\n",
+        ),
+        (
+            "towerc check absent",
+            Status::ReadFault,
+            "",
+            "cannot read absent\n",
+        ),
+        ("towerc check", Status::Usage, "", USAGE),
+        ("towerc check clock --steps 5", Status::Usage, "", USAGE),
         ("towerc walk clock --record ticks", Status::Usage, "", USAGE),
         (
             "towerc run clock --record ticks more",
@@ -106,6 +135,90 @@ fn answers_by_name(rt: HostRuntime) -> Result<(), Fail> {
         assert_eq!(rt; answer, status, "{line}");
         assert_eq!(rt; out.bytes(), on_out.as_bytes(), "{line}");
         assert_eq!(rt; err.bytes(), on_err.as_bytes(), "{line}");
+    }
+    Ok(())
+}
+
+/// Each file with what `check` tells of it, on `out` or on `err`.
+const CHECKS: [(&str, &str, &str); 9] = [
+    (FLIGHT, FLIGHT_CHECK, ""),
+    (
+        "(tower none)",
+        "tower none\nrecords 0 sources 0 channels 0 outputs 0 monitors 0 handlers 0\nmemory 0\ncode 0\nok\n",
+        "",
+    ),
+    // A cycle that no source reaches, and one that a source does.
+    (
+        "(tower cyc (signal s u8 1) (channel a u8) (channel b u8) (monitor m (handler h a (emitter e b 1) (callback v (emit e v))) (handler k b (emitter e a 1) (callback v (emit e v)))))",
+        "tower cyc\nrecords 0 sources 1 channels 2 outputs 0 monitors 1 handlers 2\ncost s 64\nmemory 65\ncode 64\nok\n",
+        "",
+    ),
+    (
+        "(tower cyc (signal s u8 1) (channel a u8) (channel b u8) (monitor m (handler g s (emitter e a 1) (callback v (emit e v))) (handler h a (emitter e b 1) (callback v (emit e v))) (handler k b (emitter e a 1) (callback v (emit e v)))))",
+        "",
+        "refused: cycle s h k h\n",
+    ),
+    (
+        "(tower t (signal s u8 1) (channel c u8) (monitor m (handler h s (emitter e c 3) (callback v (for i 4 (emit e v))))))",
+        "",
+        "refused: bound h e 4 3\n",
+    ),
+    (
+        "(tower t (signal s u8 1) (channel c u8) (monitor m (handler h s (emitter e c 0) (callback v (emit e v)))))",
+        "",
+        "refused: bound h e 1 0\n",
+    ),
+    (
+        "(tower t (signal a u8 1) (channel a u8) (monitor m (handler h zz (emitter e q 1) (callback v (emit e true)))))",
+        "",
+        "refused: twice 34 17\n",
+    ),
+    (
+        "(tower t (signal s u8 1) (monitor m (state x u16) (handler h s (callback v (set x v)))))",
+        "",
+        "refused: mismatch 82 u16 u8\n",
+    ),
+    ("(tower a))", "", "refused: unopened 9\n"),
+];
+
+/// A shelf with one file, of which each piece has at most so many bytes.
+fn one_file(alloc: Global, text: &str, most: usize) -> Result<MemShelf, AllocError>
+    requires { 1 ≤ most }
+{
+    let mut files = Vec::new(alloc);
+    files.push((
+        String::from_str(alloc, "file")?,
+        Vec::from_slice(alloc, text.as_bytes())?,
+    ))?;
+    let mut shelf = MemShelf::new(files, Vec::new(alloc));
+    shelf.cut(most);
+    Ok(shelf)
+}
+
+#[test]
+fn checks_in_pieces(rt: HostRuntime) -> Result<(), Fail> {
+    let alloc = rt.alloc();
+    let words = words(alloc, "towerc check file")?;
+    for (text, on_out, on_err) in CHECKS {
+        for most in [1usize, 3, 4096] {
+            let mut out = MemSink::new(alloc, 1000, Vec::new(alloc))?;
+            let mut err = MemSink::new(alloc, 1000, Vec::new(alloc))?;
+            let answer = tower(
+                alloc,
+                words.as_slice(),
+                &mut one_file(alloc, text, most)?,
+                &mut out,
+                &mut err,
+            );
+            let status = if on_err.is_empty() {
+                Status::Done
+            } else {
+                Status::Refused
+            };
+            assert_eq!(rt; answer, status, "{text}");
+            assert_eq!(rt; out.bytes(), on_out.as_bytes(), "{text}");
+            assert_eq!(rt; err.bytes(), on_err.as_bytes(), "{text}");
+        }
     }
     Ok(())
 }
@@ -143,6 +256,7 @@ fn each_put_fails_in_turn(rt: HostRuntime) -> Result<(), Fail> {
     let alloc = rt.alloc();
     for (line, on_out, on_err, most) in [
         ("towerc run clock --record ticks", TEXT, "", 400u64),
+        ("towerc check clock", CLOCK_CHECK, "", 60),
         (
             "towerc run clock --record absent",
             "",

@@ -2,19 +2,19 @@
 ghost use Rattle.std.specs.Prelude.{◌≡◌, ◌≢◌, ◌<◌, ◌≤◌, ◌⊎◌, List, ℕ, map, string_bytes};
 ghost use Rattle.tower_io.specs.Faults.{Rose};
 ghost use Rattle.tower_report.specs.Puts.{Puts};
-ghost use Rattle.tower_top.specs.Answers.{Ends, refused_line, unread_line, status_after, status_of_ran};
+ghost use Rattle.tower_top.specs.Answers.{Ends, unread_line, status_after, status_of_ran};
 ghost use Rattle.task_build.specs.CodeOf.{code_of};
 ghost use Rattle.lock_reduction.specs.Reduce.{Sound};
 ghost use Rattle.tower_top.specs.Small.{Small as SmallFile, Spells, arch_of};
-ghost use Rattle.tower_top.specs.Words.{AsksRun};
+ghost use Rattle.tower_top.specs.Words.{AsksCheck, AsksRun};
 
-use crate::inputs::{Input, Refusal, read_small, read_ticks};
+use crate::inputs::{Input, read_checked, read_ticks};
 use crate::run::{Ran, put_run};
 use crate::status::Status;
-use crate::words::asked_run;
+use crate::words::{Command, asked};
 use std::alloc::Global;
 use tower_io::{Put, Shelf, Sink};
-use tower_report::put_refusal;
+use tower_report::{put_check, put_fault};
 
 /// The status, or that of a put that failed.
 fn after(put: Put, status: Status) -> Status
@@ -23,19 +23,6 @@ fn after(put: Put, status: Status) -> Status
     match put {
         Put::Done => status,
         Put::Failed => Status::WriteFault,
-    }
-}
-
-/// Tells why FILE is refused.
-fn put_refused<E: Sink>(err: &mut E, why: Refusal) -> Put
-    ensures { Puts E.written E.faults err.old err.new (refused_line why) result }
-{
-    match why {
-        Refusal::Fault(fault) => put_refusal(err, fault),
-        Refusal::NotYet => match err.put(b"refused: notyet 0\n") {
-            Put::Done => Put::Done,
-            Put::Failed => Put::Failed,
-        },
     }
 }
 
@@ -54,6 +41,37 @@ fn put_unread<E: Sink>(err: &mut E, name: &str) -> Put
     match err.put(b"\n") {
         Put::Done => Put::Done,
         Put::Failed => Put::Failed,
+    }
+}
+
+/// Tells what FILE has and what it weighs, or its fault.
+fn check<F: Shelf, O: Sink, E: Sink>(
+    alloc: Global,
+    file: &str,
+    shelf: &mut F,
+    out: &mut O,
+    err: &mut E,
+) -> Status
+    ensures ends { (words : List (List ℕ)) → AsksCheck words file.now → Ends (F.held shelf.old) words (F.blamed shelf.new)
+        (record { before = F.faults shelf.old; after = F.faults shelf.new })
+        (record { before = O.faults out.old; after = O.faults out.new })
+        (record { before = E.faults err.old; after = E.faults err.new })
+        (record { old = O.written out.old; new = O.written out.new })
+        (record { old = E.written err.old; new = E.written err.new }) result }
+    ensures read_grew { F.faults shelf.old < F.faults shelf.new → (result ≡ Status.ReadFault) ⊎ (result ≡ Status.WriteFault) }
+    ensures out_grew { O.faults out.old < O.faults out.new → result ≡ Status.WriteFault }
+    ensures err_grew { E.faults err.old < E.faults err.new → result ≡ Status.WriteFault }
+    ensures blames_none { result ≢ Status.ReadFault → result ≢ Status.WriteFault → F.blamed shelf.new ≡ F.blamed shelf.old }
+    ensures read_never_falls { F.faults shelf.old ≤ F.faults shelf.new }
+    ensures out_never_falls { O.faults out.old ≤ O.faults out.new }
+    ensures err_never_falls { E.faults err.old ≤ E.faults err.new }
+    ensures holds { F.held shelf.new ≡ F.held shelf.old }
+{
+    match read_checked(alloc, shelf, file) {
+        Input::Valid(file) => after(put_check(out, &file.checked), Status::Done),
+        Input::Wrong(fault) => after(put_fault(err, &fault), Status::Refused),
+        Input::Unread => after(put_unread(err, shelf.blamed()), Status::ReadFault),
+        Input::NoMemory => Status::NoMemory,
     }
 }
 
@@ -81,11 +99,14 @@ fn run<F: Shelf, O: Sink, E: Sink>(
     ensures err_never_falls { E.faults err.old ≤ E.faults err.new }
     ensures holds { F.held shelf.new ≡ F.held shelf.old }
 {
-    let small = match read_small(alloc, shelf, file) {
-        Input::Valid(small) => small,
-        Input::Wrong(why) => return after(put_refused(err, why), Status::Refused),
+    let small = match read_checked(alloc, shelf, file) {
+        Input::Valid(file) => file.small,
+        Input::Wrong(fault) => return after(put_fault(err, &fault), Status::Refused),
         Input::Unread => return after(put_unread(err, shelf.blamed()), Status::ReadFault),
         Input::NoMemory => return Status::NoMemory,
+    };
+    let Some(small) = small else {
+        return after(err.put(b"refused: notyet 0\n"), Status::Refused);
     };
     let ticks = match read_ticks(alloc, shelf, record_name) {
         Input::Valid(ticks) => ticks,
@@ -111,7 +132,8 @@ fn status_of(ran: Ran) -> Status
 /// Carries out what the words ask for. The first word is the program's name. The inputs come from the shelf, the text
 /// goes to `out`, and the one line that tells of a fault to `err`.
 ///
-/// `run FILE --record NAME` runs the program of a small file over a record of ticks, and writes the text of the run.
+/// `check FILE` tells what an accepted file has and what it weighs. `run FILE --record NAME` runs the program of a small
+/// file over a record of ticks, and writes the text of the run.
 /// After `WriteFault` a first part of what was due was written on each sink. After any other answer but `Done`
 /// nothing was written on `out`, and after `NoMemory` nothing at all. `Stopped` and `No` never come.
 pub fn tower<F: Shelf, O: Sink, E: Sink>(
@@ -142,8 +164,9 @@ pub fn tower<F: Shelf, O: Sink, E: Sink>(
     // The program of a small file, whose run is written, is sound: the headline.
     ensures sound { (text : List ℕ) (s : SmallFile) → Spells text s → Sound (arch_of s) (code_of (arch_of s)) }
 {
-    match asked_run(words) {
-        Some((file, record_name)) => run(alloc, file, record_name, shelf, out, err),
+    match asked(words) {
+        Some(Command::Check { file }) => check(alloc, file, shelf, out, err),
+        Some(Command::Run { file, record_name }) => run(alloc, file, record_name, shelf, out, err),
         None => after(
             err.put(b"usage: towerc COMMAND FILE [OPTIONS]\n"),
             Status::Usage,

@@ -6,8 +6,17 @@ use Rattle.tower_top.proofs.SmallSound.{small_sound}
 use Rattle.tower_top.proofs.TopFacts.{line_ends}
 use Rattle.tower_top.proofs.top.tower.Goals as goal
 
-pub returns-in-Some-clause-sound : goal.returns-in-Some-clause-sound
-returns-in-Some-clause-sound g c = λ text s spells. small_sound s spells.valid
+pub returns-in-Some-Check-clause-sound : goal.returns-in-Some-Check-clause-sound
+returns-in-Some-Check-clause-sound g c = λ text s spells. small_sound s spells.valid
+
+pub returns-in-Some-Run-clause-sound : goal.returns-in-Some-Run-clause-sound
+returns-in-Some-Run-clause-sound g c = λ text s spells. small_sound s spells.valid
+
+pub returns-in-Some-Check-clause-ends : goal.returns-in-Some-Check-clause-ends
+returns-in-Some-Check-clause-ends g c = c.check.ensures.ends (map string_bytes c.args.words.now) (rw c.in-Some-Check.field-0-is at c.in-Some-Check.ensures)
+
+pub returns-in-Some-Run-clause-ends : goal.returns-in-Some-Run-clause-ends
+returns-in-Some-Run-clause-ends g c = c.run.ensures.ends (map string_bytes c.args.words.now) (rw c.in-Some-Run.field-0-is at c.in-Some-Run.ensures)
 
 pub returns-in-None-clause-sound : goal.returns-in-None-clause-sound
 returns-in-None-clause-sound g c = λ text s spells. small_sound s spells.valid
