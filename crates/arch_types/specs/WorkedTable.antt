@@ -8,7 +8,7 @@ use Rattle.tower_types.specs.declared.scalar.UnOp.{UnOp}
 use Rattle.tower_types.specs.declared.scalar.UnOp.TheVariants as un_op
 use Rattle.tower_types.specs.Ty.{Ty, scalar, array, rec as record_type}
 use Rattle.tower_syntax.specs.declared.named.Target.TheVariants as target
-use Rattle.tower_syntax.specs.RawTree.{Id, Link, word, RawPlace, root, get, index, RawExpr, truth, read, lit, un, bin, choose, cast, RawStmt, bind, set, copy, loop, emit, no_stmts, stmt, RawHpart, callback, RawPart, state, handler, RawItem, signal, monitor, Raw}
+use Rattle.tower_syntax.specs.RawTree.{Id, Link, word, RawPlace, root, get, index, RawExpr, truth, read, lit, un, bin, choose, cast, RawStmt, bind, set, copy, loop, emit, no_stmts, stmt, RawHpart, callback, RawPart, state, handler, RawItem, period, signal, monitor, Raw}
 use Rattle.arch_types.specs.declared.fault.Want.{Want}
 use Rattle.arch_types.specs.declared.fault.Want.TheVariants as want
 use Rattle.arch_types.specs.declared.fault.TypeFault.{TypeFault}
@@ -167,6 +167,26 @@ the_monitor held = monitor 25 (id 34 (codes "m")) (the_state held ∷ the_handle
 abbrev pub file_of : Scalar → Scalar → Raw Link
 file_of message held = record { at = 0; version = 1; name = id 7 (codes "t"); items = the_signal message ∷ the_monitor held ∷ [] }
 
+-- ---- a file with one monitor, whose handler counts how often its period came
+
+abbrev pub count_more : RawExpr Link
+count_more = bin 185 op.Add (read (state_at 188 0)) (lit 190 is.U32 (pos 1))
+
+abbrev pub set_count : RawStmt Link
+set_count = set 178 (state_at 183 0) count_more
+
+abbrev pub the_beat : RawItem Link
+the_beat = period 96 (id 104 (codes "beat")) 10 5 None
+
+abbrev pub the_tick : RawPart Link
+the_tick = handler 147 (id 156 (codes "tick")) (record { at = 161; target = target.Source 0 }) (callback 166 (id 176 (codes "t")) (stmt set_count no_stmts) ∷ [])
+
+abbrev pub the_count : RawItem Link
+the_count = monitor 116 (id 125 (codes "count")) (state 131 (id 138 (codes "n")) (word 140 is.U32) ∷ the_tick ∷ [])
+
+abbrev pub clock : Raw Link
+clock = record { at = 83; version = 1; name = id 90 (codes "clock"); items = the_beat ∷ the_count ∷ [] }
+
 abbrev pub file_fault : {A : Type 0} → Result A TypeFault → Option TypeFault
 file_fault (Ok hs) = None
 file_fault (Err f) = Some f
@@ -177,3 +197,4 @@ said_of raw = file_fault (in_turn (handled (outline raw)) (handlers_of raw))
 pub record WorkedFile : Type 0 where
   pub same : said_of (file_of is.U8 is.U8) ≡ None
   pub other : said_of (file_of is.U8 is.U16) ≡ mismatch 82 (want.Exactly (codes "u16")) (codes "u8")
+  pub counting : said_of clock ≡ None

@@ -5,4 +5,5 @@ pub returns : goal.returns
 returns c = record {
   same = refl;
   other = refl;
+  counting = refl;
 }
