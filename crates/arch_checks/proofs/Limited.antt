@@ -105,7 +105,3 @@ within_more arch i w n cut most at within counts e f le v m below other = elim (
       subst (λ x. m ≤ limit x) (sym vw) there
   | inr other_place ↦ elim other_place [ inl l ↦ within v m l other | inr l ↦ absurd (omega (arith, l, below)) ]
 ]
-
--- and one that is not
-pub too_much : (w : What) (n cut most : ℕ) → cut ≡ saturated n → most ≡ limit w → most < cut → limit w < n
-too_much w n cut most e f more = omega (arith, e, f, more)

@@ -46,20 +46,6 @@ pub map_all : {X Y : Type 0} (P : Y → Type 0) (f : X → Y) (xs : List X) → 
 map_all P f [] h = tt
 map_all P f (x ∷ xs) h = (h.0, map_all P f xs h.1)
 
-in_front : {X : Type 0} (x : X) (xs ys : List X) → In x xs → In x (xs ++ ys)
-in_front x [] ys i = absurd i
-in_front x (y ∷ xs) ys (inl e) = inl e
-in_front x (y ∷ xs) ys (inr i) = inr (in_front x xs ys i)
-
-in_back : {X : Type 0} (x : X) (xs ys : List X) → In x ys → In x (xs ++ ys)
-in_back x [] ys i = i
-in_back x (y ∷ xs) ys i = inr (in_back x xs ys i)
-
-pub in_each : {X Y : Type 0} (of : X → List Y) (xs : List X) (x : X) (y : Y) → In x xs → In y (of x) → In y (each of xs)
-in_each of [] x y i j = absurd i
-in_each of (z ∷ zs) x y (inl e) j = in_front y (of z) (each of zs) (subst (λ w. In y (of w)) e j)
-in_each of (z ∷ zs) x y (inr i) j = in_back y (of z) (each of zs) (in_each of zs x y i j)
-
 pub greatest_below : (ns : List ℕ) (k : ℕ) → AllOf (λ n. n ≤ k) ns → greatest ns ≤ k
 greatest_below [] k h = omega arith
 greatest_below (n ∷ ns) k h = let r = greatest_below ns k h.1 in omega (arith, h.0, r)

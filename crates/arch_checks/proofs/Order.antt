@@ -29,9 +29,6 @@ use Rattle.arch_checks.proofs.Limited.{what_once, count_once, order_below}
 
 -- ---- each offence, of the trees that the text has
 
-no_reads : (bs : List ℕ) (raw : Raw Id) → Spells bs raw → (f : ReadFault) → reading.TextOffends bs f → ⊥
-no_reads bs raw s f o = not_both bs raw f s o
-
 name_here : (bs : List ℕ) (r q : Raw Id) (f : NameFault) → Spells bs r → Spells bs q → named.Offences q f → named.Offences r f
 name_here bs r q f s t o = subst (λ x. named.Offences x f) (one_tree bs q r t s) o
 
@@ -57,9 +54,6 @@ rank_below bs (fault.Form at) h = omega arith
 rank_below bs (fault.Number at) h = omega arith
 rank_below bs (fault.Length at) h = omega arith
 rank_below bs fault.NoMemory h = absurd h
-
-earlier : (k l m n x y : ℕ) → k < l → Precedes (place k m n) (place l x y)
-earlier k l m n x y h = inl h
 
 read_before : (f g : ReadFault) → (g ≡ f) ⊎ reading.Precedes f g → (of_read g ≡ of_read f) ⊎ Precedes (place (reading.rank f) (reading.offset f) 0) (place (reading.rank g) (reading.offset g) 0)
 read_before f g (inl e) = inl (ap of_read e)

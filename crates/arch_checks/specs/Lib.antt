@@ -5,4 +5,5 @@ pub mod Offences
 pub mod Firsts
 pub mod Measured
 pub mod TypeNodes
+pub mod WorkedSizes
 pub mod Laws

@@ -1,4 +1,5 @@
 //! The laws of the definitions. Each is the contract of a function that does nothing.
+ghost use Rattle.arch_checks.specs.WorkedSizes.{WorkedSizes};
 ghost use Rattle.arch_checks.specs.Laws.{AcceptedFilesAreSafe, OneSystem, OneFault, NotBoth, WrittenTypesCount};
 
 /// What an accepted file keeps: its numbers name what exists, each node has its type, no source reaches a cycle, and
@@ -17,4 +18,9 @@ pub fn one_verdict()
 /// The depth and the words that have limits are those of the type nodes and records of the text.
 pub fn written_types_count()
     ensures { WrittenTypesCount }
+{}
+
+/// Worked depths and widths. The body is empty: the check computes what the contract says.
+pub fn worked_sizes()
+    ensures { WorkedSizes }
 {}
