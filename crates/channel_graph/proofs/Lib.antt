@@ -13,6 +13,7 @@ pub mod Rounds
 pub mod Sized
 pub mod Acyclic
 pub mod Peeled
+pub mod Leveled
 pub mod Weighed
 pub mod Looked
 pub mod Shaped

@@ -4,6 +4,7 @@ pub mod Circuit
 pub mod Worked
 pub mod Ranked
 pub mod Settled
+pub mod Levels
 pub mod Over
 pub mod Chain
 pub mod Relay
