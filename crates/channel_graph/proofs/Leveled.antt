@@ -59,6 +59,6 @@ higher arch levels k listed up from j (goes h i f link) =
 pub below_none : (arch : Arch) (levels : List ℕ) (k : ℕ) → AreListeners arch → Ascends arch levels (length arch.handlers) → AreFrom arch levels (rank levels k + 1) (handler arch k).emitters → walk_round arch k ≡ None
 below_none arch levels k listed up from = no_walk arch k (λ back. let wrong = higher arch levels k listed up from k back in omega (arith, wrong))
 
-pub not_false : {b : Bool} → not b ≡ false → b ≡ true
-not_false {true} e = refl
-not_false {false} e = absurd (false≢true (sym e))
+pub not_false : (b : Bool) → not b ≡ false → b ≡ true
+not_false true e = refl
+not_false false e = absurd (false≢true (sym e))

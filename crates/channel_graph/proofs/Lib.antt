@@ -1,5 +1,6 @@
 pub mod Saturating
 pub mod Counted
+pub mod Roughly
 pub mod Listed
 pub mod Members
 pub mod Linked

@@ -6,6 +6,7 @@ pub mod Ranked
 pub mod Settled
 pub mod Levels
 pub mod Over
+pub mod Rough
 pub mod Chain
 pub mod Relay
 pub mod Lengths

@@ -1,13 +1,14 @@
-//! Who hears whom in a system: subscribers, what a source reaches, the cycle that is shown, how many messages a handler
-//! may emit, and how much memory a system needs.
+//! Who hears whom in a system: subscribers, what a source reaches, the cycle that is shown, the longest walk. And the
+//! weights of its text: how many messages a handler may emit and which emitter is over its bound, what a message of a
+//! source costs, and what the memory and the code weigh.
 #![tactic(auto)]
 
 mod bounds;
 mod channels;
 mod circuit;
+mod code_weight;
 mod delivery;
 mod counting;
-mod instructions;
 pub mod laws;
 mod levels;
 mod links;
@@ -16,6 +17,7 @@ mod longest;
 mod looping;
 mod marked;
 mod reach;
+mod rough;
 mod scope;
 mod section;
 mod settled;
@@ -27,7 +29,7 @@ pub use bounds::{Over, first_over};
 pub use circuit::{CycleFound, cycle};
 pub use delivery::costs;
 pub use counting::most;
-pub use instructions::code;
+pub use code_weight::code;
 pub use listening::subscribers;
 pub use longest::chain;
 pub use reach::reached;

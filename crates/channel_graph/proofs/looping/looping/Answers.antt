@@ -17,7 +17,7 @@ loop-h-preserved c =
     elim c.if-known.branch [
       | then-known w ↦
           let up = c.ascends-known.ensures w.if-known.true in
-          looping_more arch h c.loop-h.marks c.push.new.self _ c.loop-h.invariant (λ none. below_none arch levels h c.requires.listed up (w.is_below-below.ensures (sym w.below-is ∙ not_false none))) c.in_ok-push.ensures.ok
+          looping_more arch h c.loop-h.marks c.push.new.self _ c.loop-h.invariant (λ none. below_none arch levels h c.requires.listed up (w.is_below-below.ensures (sym w.below-is ∙ not_false _ none))) c.in_ok-push.ensures.ok
       | else-known w ↦
-          looping_more arch h c.loop-h.marks c.push.new.self _ c.loop-h.invariant (λ none. absurd (false≢true (sym w.below-is ∙ not_false none))) c.in_ok-push.ensures.ok
+          looping_more arch h c.loop-h.marks c.push.new.self _ c.loop-h.invariant (λ none. absurd (false≢true (sym w.if-known.false ∙ (sym w.below-is ∙ not_false _ none)))) c.in_ok-push.ensures.ok
     ]

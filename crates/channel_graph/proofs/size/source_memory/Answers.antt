@@ -1,6 +1,6 @@
 use Rattle.std.proofs.Common.{arith}
 use Rattle.channel_graph.specs.Table.{frame_of}
-use Rattle.channel_graph.proofs.size.task_words.Goals as goal
+use Rattle.channel_graph.proofs.size.source_memory.Goals as goal
 
 pub returns : goal.returns
 returns c =

@@ -1,6 +1,6 @@
 use Rattle.std.proofs.Common.{arith}
 use Rattle.channel_graph.specs.Table.{code_of, nothing}
-use Rattle.channel_graph.proofs.instructions.task_code.Goals as goal
+use Rattle.channel_graph.proofs.code_weight.source_code.Goals as goal
 
 pub returns : goal.returns
 returns c =

@@ -4,7 +4,7 @@ use Rattle.tower_syntax.specs.View.{handler_of}
 use Rattle.channel_graph.specs.Table.{channel_weight, code_of, nothing}
 use Rattle.channel_graph.proofs.Rounded.{channels_below, table_read, code_read}
 use Rattle.channel_graph.proofs.Tables.{table_more, table_end}
-use Rattle.channel_graph.proofs.instructions.codes.Goals as goal
+use Rattle.channel_graph.proofs.code_weight.codes.Goals as goal
 
 pub links_weight-links-requires : goal.links_weight-links-requires
 links_weight-links-requires c =

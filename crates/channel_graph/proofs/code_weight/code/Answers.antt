@@ -6,12 +6,12 @@ use Rattle.tower_syntax.specs.Graph.{numbers_before}
 use Rattle.tower_syntax.specs.Weights.{source_code}
 use Rattle.channel_graph.proofs.Saturating.{saturating_step}
 use Rattle.channel_graph.proofs.Sized.{sum_numbers}
-use Rattle.channel_graph.proofs.instructions.code.Goals as goal
+use Rattle.channel_graph.proofs.code_weight.code.Goals as goal
 
 pub loop-s-preserved : goal.loop-s-preserved
 loop-s-preserved c =
     let arch = c.args.arch.now in
-    saturating_step c.loop-s.total c.in_ok-task.task c.saturating_add-total.result _ _ _ c.loop-s.invariant c.in_ok-task.ensures c.saturating_add-total.ensures (sum_numbers (source_code arch) c.loop-s.s)
+    saturating_step c.loop-s.total c.in_ok-more.more c.saturating_add-total.result _ _ _ c.loop-s.invariant c.in_ok-more.ensures c.saturating_add-total.ensures (sum_numbers (source_code arch) c.loop-s.s)
 
 pub returns : goal.returns
 returns c =

@@ -3,7 +3,7 @@ use Rattle.tower_types.specs.Records.{saturated}
 use Rattle.tower_syntax.specs.Arch.{Arch}
 use Rattle.tower_syntax.specs.View.{emitter_of}
 use Rattle.channel_graph.specs.Table.{IsTable, channel_weight, link_weight}
-use Rattle.channel_graph.proofs.instructions.links_weight.Given as goal
+use Rattle.channel_graph.proofs.code_weight.links_weight.Given as goal
 
 abbrev pub invariant-loop-emitter : goal.invariant-loop-emitter
 invariant-loop-emitter l =

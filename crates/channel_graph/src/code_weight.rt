@@ -1,4 +1,4 @@
-//! How many instructions the tasks of a system have, or 2^64 - 1 where there are more.
+//! What the code of a system weighs, or 2^64 - 1 where it weighs more.
 
 ghost use Rattle.std.specs.Prelude.{◌≡◌, ◌<◌, ℕ, length, map, sum, All, IfOk};
 ghost use Rattle.tower_types.specs.Records.{saturated};
@@ -26,7 +26,7 @@ fn no_costs(alloc: Global, arch: &Arch) -> Result<Items<u64>, NoMemory>
     Ok(Items::from_vec(costs))
 }
 
-/// What it weighs to hand all that the emitters hold to the subscribers, by what that weighs for each channel.
+/// The weight of the emitters in the code: of each once, whatever its bound, by what a message of each channel weighs.
 fn links_weight(emitters: &[Emitter], totals: &[u64]) -> u64
     requires { All (λ e. e.channel < length totals.now) (map emitter_of emitters.now) }
     ensures { (arch : System) (f : ℕ → ℕ) → IsTable (length totals.now) (channel_weight arch f) totals.now
@@ -40,7 +40,7 @@ fn links_weight(emitters: &[Emitter], totals: &[u64]) -> u64
     total
 }
 
-/// For each handler, its instructions in one task.
+/// For each handler, the weight of its code.
 fn codes(alloc: Global, arch: &Arch, costs: &[u64]) -> Result<Items<u64>, NoMemory>
     requires { IsTable (length arch.now.handlers) nothing costs.now }
     ensures { IfOk result (IsTable (length arch.now.handlers) (code_of arch.now)) }
@@ -56,8 +56,8 @@ fn codes(alloc: Global, arch: &Arch, costs: &[u64]) -> Result<Items<u64>, NoMemo
     Ok(codes)
 }
 
-/// The instructions of a source's task, by those of the handlers.
-fn task_code(
+/// The weight of a source's code, by those of the handlers.
+fn source_code(
     alloc: Global,
     arch: &Arch,
     heard: &[Items<u32>],
@@ -77,7 +77,7 @@ fn task_code(
     Ok(messages.saturating_add(handlers))
 }
 
-/// The instructions of all sources' tasks, or 2^64 - 1 where there are more.
+/// The weight of the code of all sources, or 2^64 - 1 where it is more.
 pub fn code(alloc: Global, arch: &Arch) -> Result<u64, NoMemory>
     ensures { IfOk result (λ n. n ≡ saturated (code arch.now)) }
 {
@@ -87,7 +87,7 @@ pub fn code(alloc: Global, arch: &Arch) -> Result<u64, NoMemory>
     let mut total: u64 = 0;
     for s in 0..arch.sources().len() {
         let source = s as u32;
-        let task = task_code(
+        let more = source_code(
             alloc,
             arch,
             heard.as_slice(),
@@ -95,7 +95,7 @@ pub fn code(alloc: Global, arch: &Arch) -> Result<u64, NoMemory>
             codes.as_slice(),
             source,
         )?;
-        total = total.saturating_add(task);
+        total = total.saturating_add(more);
     }
     Ok(total)
 }

@@ -7,7 +7,7 @@ use Rattle.channel_graph.specs.Table.{channel_weight, link_weight}
 use Rattle.channel_graph.proofs.Saturating.{saturating_step}
 use Rattle.channel_graph.proofs.Counted.{sum_of_all-more}
 use Rattle.channel_graph.proofs.Sized.{each_view}
-use Rattle.channel_graph.proofs.instructions.links_weight.Goals as goal
+use Rattle.channel_graph.proofs.code_weight.links_weight.Goals as goal
 
 pub bounds-totals-emitter : goal.bounds-totals-emitter
 bounds-totals-emitter c =
