@@ -1,9 +1,9 @@
 -- A record's shape is that of its fields, never a scalar's.
-use Rattle.std.proofs.Common.{◌≡◌, ◌∙◌, ℕ, zero, suc, List, [], ◌∷◌, ◌++◌, get_or, fold, Bool, true, false, refl, ap, sym}
+use Rattle.std.proofs.Common.{◌≡◌, ◌∙◌, ℕ, zero, suc, List, [], ◌∷◌, ◌++◌, get_or, fold, true, false, refl, ap, sym}
 use Rattle.tower_types.specs.declared.scalar.Scalar.{Scalar}
 use Rattle.tower_types.specs.declared.ty.Ty.{Ty as TyValue}
 use Rattle.tower_types.specs.declared.ty.Ty.TheVariants as types
-use Rattle.tower_types.specs.Ty.{Fields, Records, Shape, rec, table_of, shape_of_fields}
+use Rattle.tower_types.specs.Ty.{Records, Shape, rec, shape_of_fields}
 use Rattle.tower_types.specs.View.{ty_of}
 use Rattle.tower_types.proofs.Seen.{ty_of-Scalar, ty_of-Array, ty_of-Rec}
 use Rattle.tower_syntax.specs.Arch.{Arch}

@@ -1,10 +1,10 @@
 -- What a round of deliveries makes of a list of costs.
-use Rattle.std.proofs.Common.{◌≡◌, ℕ, zero, suc, ◌+◌, ◌-◌, ◌^◌, ◌<◌, ◌≤◌, List, [], ◌∷◌, ◌++◌, All, length, map, sum, get_or, min, slice_get, Some, arith, refl, sym, ◌∙◌, ap, subst, zero-add}
+use Rattle.std.proofs.Common.{◌≡◌, ℕ, zero, suc, ◌+◌, ◌-◌, ◌^◌, ◌<◌, ◌≤◌, List, [], ◌∷◌, ◌++◌, All, length, map, sum, get_or, min, slice_get, Some, arith, sym, ◌∙◌, ap, subst, zero-add}
 use Rattle.std.proofs.lemmas.List.{map-append}
 use Rattle.tower_types.specs.Records.{saturated}
 use Rattle.tower_syntax.specs.declared.arch.Emitter.{Emitter as EmitterValue}
 use Rattle.tower_syntax.specs.declared.arch.Handler.{Handler as HandlerValue}
-use Rattle.tower_syntax.specs.Arch.{Arch, Emitter}
+use Rattle.tower_syntax.specs.Arch.{Arch}
 use Rattle.tower_syntax.specs.View.{emitter_of, handler_of}
 use Rattle.tower_syntax.specs.Graph.{handler, numbers_before}
 use Rattle.tower_syntax.specs.Weights.{emitter_weight, deliver_within, deliver, section_by, standing}

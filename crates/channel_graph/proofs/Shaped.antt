@@ -1,11 +1,11 @@
 -- The shapes of places, step by step.
-use Rattle.std.proofs.Common.{◌≡◌, ◌∙◌, ℕ, ◌+◌, ◌<◌, ◌≤◌, List, [], ◌∷◌, ◌++◌, length, map, take, drop, get_or, slice_get, Some, All, arith, refl, ap, sym, subst}
+use Rattle.std.proofs.Common.{◌≡◌, ◌∙◌, ℕ, ◌+◌, ◌<◌, List, [], ◌∷◌, ◌++◌, length, map, take, drop, get_or, slice_get, Some, All, arith, refl, ap, sym, subst}
 use Rattle.std.proofs.lemmas.Option.{get_or_from_slice_get, slice_get_within, slice_get-get_or}
 use Rattle.std.proofs.lemmas.List.{take_more, take-append-drop}
 use Rattle.tower_types.specs.declared.scalar.Scalar.{Scalar}
 use Rattle.tower_types.specs.declared.ty.Ty.{Ty as TyValue}
 use Rattle.tower_types.specs.declared.ty.Ty.TheVariants as types
-use Rattle.tower_types.specs.Ty.{Name, Fields, NamesBelow, Shape, one, many, all, Shapes, no_shapes, shapes_of, shape_in, array, rec, table_of, shape_of_fields}
+use Rattle.tower_types.specs.Ty.{Name, Fields, NamesBelow, Shape, all, Shapes, shapes_of, shape_in, array, rec, table_of, shape_of_fields}
 use Rattle.tower_types.specs.Records.{AreOrdered}
 use Rattle.tower_types.proofs.Shapes.{shape_of-rec}
 use Rattle.tower_types.specs.View.{ty_of, fields_of}

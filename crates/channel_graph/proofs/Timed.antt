@@ -1,5 +1,5 @@
 -- The statements of a list that grows, weighed.
-use Rattle.std.proofs.Common.{◌≡◌, ℕ, ◌+◌, ◌<◌, List, [], ◌∷◌, ◌++◌, length, get_or, take, arith, ap, ◌∙◌, sym}
+use Rattle.std.proofs.Common.{◌≡◌, ℕ, ◌+◌, ◌<◌, List, [], ◌∷◌, ◌++◌, length, get_or, take, arith, ap, ◌∙◌}
 use Rattle.std.proofs.lemmas.List.{take_more}
 use Rattle.tower_syntax.specs.declared.body.Stmt.{Stmt as StmtValue}
 use Rattle.tower_syntax.specs.View.{stmt_of, all_stmts_of}

@@ -1,12 +1,12 @@
 -- Walks, their lengths, and handlers that stand on one twice.
-use Rattle.std.proofs.Common.{◌≡◌, ℕ, zero, suc, ◌+◌, ◌-◌, ◌<◌, ◌≤◌, List, [], ◌∷◌, ◌++◌, length, filter, take, get_or, replicate, cond, not, Contains, Bool, true, false, ◌⊎◌, inl, inr, ◌==◌, arith, refl, sym, ◌∙◌, ap, subst}
+use Rattle.std.proofs.Common.{◌≡◌, ℕ, zero, suc, ◌+◌, ◌<◌, ◌≤◌, List, [], ◌∷◌, ◌++◌, length, filter, take, get_or, replicate, cond, not, Bool, true, false, ◌⊎◌, inl, inr, ◌==◌, arith, refl, sym, ◌∙◌, ap, subst}
 use Rattle.std.proofs.lemmas.Bool.{false≢true, cases_Bool, cases_lt, eqb-true, eq-eqb}
 use Rattle.std.proofs.lemmas.List.{length-append, get_or_append_left, get_or_past, length-replicate, get_or-replicate, length-take-le}
 use Rattle.std.proofs.Math.Seq.{get_or-append_seam}
 use Rattle.tower_syntax.specs.declared.arch.On.TheVariants as on
 use Rattle.tower_syntax.specs.declared.arch.Listener.TheVariants as to
 use Rattle.tower_syntax.specs.Arch.{Arch}
-use Rattle.tower_syntax.specs.Graph.{handler, leads, subs, hears, same_on, Reaches}
+use Rattle.tower_syntax.specs.Graph.{handler, subs, hears, same_on, Reaches}
 use Rattle.tower_syntax.specs.Graph.{begins as reach_begins, goes as reach_goes}
 use Rattle.tower_syntax.specs.WellNumbered.{AreListeners, IsWellNumbered}
 use Rattle.channel_graph.specs.declared.reach.Start.TheVariants as start

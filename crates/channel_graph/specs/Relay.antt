@@ -1,6 +1,6 @@
 -- A small system with a link: h on the source emits on a channel that k and an output are on.
-use Rattle.std.specs.Prelude.{◌≡◌, ℕ, [], ◌∷◌, codes, map}
-use Rattle.tower_types.specs.declared.scalar.Scalar.TheVariants.{I64, U32}
+use Rattle.std.specs.Prelude.{ℕ, [], ◌∷◌, codes}
+use Rattle.tower_types.specs.declared.scalar.Scalar.TheVariants.{U32}
 use Rattle.tower_types.specs.Ty.{scalar}
 use Rattle.tower_syntax.specs.declared.body.Root.TheVariants.{Param, State}
 use Rattle.tower_syntax.specs.declared.arch.On.TheVariants as on
@@ -8,7 +8,6 @@ use Rattle.tower_syntax.specs.declared.arch.Listener.TheVariants as to
 use Rattle.tower_syntax.specs.Tree.{set, emit}
 use Rattle.tower_syntax.specs.Arch.{Arch, Source, Channel, Output, Monitor, Handler, Body, Emitter}
 use Rattle.tower_syntax.specs.Examples.{period, channel, output, monitor, emitter, callback, handler, value_at, whole}
-use Rattle.tower_syntax.specs.Weights.{cost, memory, code}
 
 abbrev pub relay_source : Source
 relay_source = period (codes "beat") 10 5

@@ -5,7 +5,7 @@ use Rattle.tower_syntax.specs.declared.arch.On.{On}
 use Rattle.tower_syntax.specs.declared.arch.On.TheVariants as on
 use Rattle.tower_syntax.specs.declared.arch.Listener.{Listener}
 use Rattle.tower_syntax.specs.Arch.{Arch, Emitter}
-use Rattle.tower_syntax.specs.Graph.{handler, hears, subs}
+use Rattle.tower_syntax.specs.Graph.{handler, hears}
 use Rattle.tower_syntax.specs.Weights.{move, message_words, section, emitter_weight, subscribers_weight, handler_memory, handler_code}
 
 -- the list has f of each of the first n numbers

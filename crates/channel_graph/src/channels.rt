@@ -3,7 +3,6 @@
 ghost use Rattle.std.specs.Prelude.{◌≡◌, ◌<◌, ◌++◌, [], ◌∷◌, ℕ, List, length, All, map, IfOk};
 ghost use Rattle.tower_types.specs.Records.{saturated};
 ghost use Rattle.tower_syntax.specs.declared.arch.On.TheVariants as on;
-
 ghost use Rattle.tower_syntax.specs.WellNumbered.{IsNumberedOn};
 ghost use Rattle.channel_graph.specs.Listening.{Exists, attached};
 ghost use Rattle.channel_graph.specs.Table.{IsTable, channel_move, channel_weight, weight_among};

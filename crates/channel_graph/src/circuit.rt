@@ -71,7 +71,11 @@ fn mark_channel(loud: &mut Items<bool>, on: On)
 }
 
 /// Marks each channel that a handler with a rank is on.
-pub(crate) fn loud_channels(alloc: Global, arch: &Arch, ranks: &[u64]) -> Result<Items<bool>, NoMemory>
+pub(crate) fn loud_channels(
+    alloc: Global,
+    arch: &Arch,
+    ranks: &[u64],
+) -> Result<Items<bool>, NoMemory>
     requires { length ranks.now ≡ length arch.now.handlers }
     ensures { IfOk result (AreLoud arch.now ranks.now (length arch.now.handlers)) }
 {

@@ -27,7 +27,6 @@ mod weight;
 
 pub use bounds::{Over, first_over};
 pub use circuit::{CycleFound, cycle};
-pub use delivery::costs;
 pub use counting::most;
 pub use code_weight::code;
 pub use listening::subscribers;

@@ -7,9 +7,7 @@ ghost use Rattle.tower_syntax.specs.Tree.{read, place, no_steps};
 ghost use Rattle.tower_syntax.specs.View.{arch_of, body_of, channel_of, expr_of, handler_of, monitor_of, output_of, place_of, source_of};
 ghost use Rattle.channel_graph.specs.Relay.{relay, sends, keeps, sender, keeper};
 
-use crate::{
-    Over, chain, code, costs, cycle, first_over, memory, most, reached, subscribers,
-};
+use crate::{Over, chain, code, costs, cycle, first_over, memory, most, reached, subscribers};
 use sqlite_items::Items;
 use std::alloc::Global;
 use std::test::Fail;

@@ -66,4 +66,3 @@ fn step_weight(step: &PlaceStep) -> u64
         PlaceStep::At(e) => expr_weight(e).saturating_add(8),
     }
 }
-

@@ -1,4 +1,4 @@
-use Rattle.std.proofs.Common.{◌≡◌, ◌+◌, ◌-◌, ◌^◌, ◌<◌, length, min, get_or, sym, subst, List, ℕ}
+use Rattle.std.proofs.Common.{◌≡◌, ◌+◌, ◌-◌, ◌^◌, min, get_or, sym, subst, List, ℕ}
 use Rattle.tower_syntax.specs.WellNumbered.{IsNumberedOn}
 use Rattle.channel_graph.proofs.Delivered.{joins_channel}
 use Rattle.channel_graph.proofs.channels.add_subscriber.Goals as goal

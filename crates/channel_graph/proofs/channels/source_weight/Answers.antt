@@ -1,10 +1,8 @@
-use Rattle.std.proofs.Common.{◌≡◌, ◌∙◌, ◌+◌, ◌-◌, ◌^◌, ◌<◌, ℕ, List, Bool, ap, sym, subst, length, min, get_or, take, true, false, arith}
-use Rattle.tower_syntax.specs.declared.arch.On.{On}
+use Rattle.std.proofs.Common.{◌≡◌, ◌∙◌, ◌+◌, ◌-◌, ◌^◌, ℕ, ap, sym, subst, length, min, get_or, arith}
 use Rattle.tower_syntax.specs.declared.arch.On.TheVariants as on
 use Rattle.tower_syntax.specs.declared.arch.Listener.TheVariants as to
 use Rattle.tower_syntax.specs.Graph.{same_on}
 use Rattle.tower_syntax.specs.Weights.{message_words}
-use Rattle.channel_graph.specs.Listening.{attached}
 use Rattle.channel_graph.proofs.Delivered.{listener_read, listed_when_there, joined, not_joined, all_joined}
 use Rattle.channel_graph.proofs.channels.source_weight.Goals as goal
 use Rattle.channel_graph.proofs.channels.source_weight.Goals.{then-is_same, else-is_same}

@@ -1,11 +1,10 @@
-use Rattle.std.proofs.Common.{◌≡◌, ◌∙◌, ℕ, List, length, map, ap, subst, sym, arith, []}
+use Rattle.std.proofs.Common.{◌≡◌, ◌∙◌, length, map, ap, subst, sym, arith, []}
 use Rattle.std.proofs.lemmas.List.{length-map}
 use Rattle.tower_types.specs.Records.{saturated}
 use Rattle.tower_syntax.specs.View.{source_of}
 use Rattle.tower_syntax.specs.Graph.{numbers_before}
 use Rattle.tower_syntax.specs.Weights.{deliver, cost}
 use Rattle.channel_graph.specs.Table.{IsTable}
-use Rattle.channel_graph.proofs.Saturating.{saturating_step}
 use Rattle.channel_graph.proofs.Rounded.{list_more}
 use Rattle.channel_graph.proofs.delivery.costs.Goals as goal
 

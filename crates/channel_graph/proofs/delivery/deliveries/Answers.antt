@@ -3,7 +3,7 @@ use Rattle.std.proofs.lemmas.List.{length-map}
 use Rattle.std.proofs.lemmas.Slice.Eq.{bytes_eq-Decides}
 use Rattle.tower_syntax.specs.View.{handler_of}
 use Rattle.tower_syntax.specs.Weights.{deliver_within}
-use Rattle.channel_graph.specs.Table.{IsTable, further}
+use Rattle.channel_graph.specs.Table.{IsTable}
 use Rattle.channel_graph.proofs.Rounded.{settled_in}
 use Rattle.channel_graph.proofs.delivery.deliveries.Goals as goal
 
@@ -15,7 +15,7 @@ returns-then-eq c =
     let equal = sym c.eq.ensures ∙ c.if-eq.true in
     let same = sym c.as_slice-in-loop-links-4.ensures ∙ (bytes_eq-Decides c.as_slice-in-loop-links-4.result.now c.as_slice-in-loop-links-5.result.now).0 equal ∙ c.as_slice-in-loop-links-5.ensures in
     let round = λ (f : ℕ → ℕ) (table : IsTable (length arch.handlers) f c.loop-links.costs).
-        c.in_ok-after.ensures f (subst (IsTable (length arch.handlers) f) (sym c.as_slice-in-loop-links-3.ensures) table) in
+    c.in_ok-after.ensures f (subst (IsTable (length arch.handlers) f) (sym c.as_slice-in-loop-links-3.ensures) table) in
     settled_in arch c.loop-links.costs c.in_ok-after.after n few same round c.loop-links.invariant
 
 pub loop-links-preserved : goal.loop-links-preserved

@@ -1,4 +1,4 @@
-use Rattle.std.proofs.Common.{◌≡◌, ◌∙◌, ◌<◌, ◌*◌, ◌-◌, ◌^◌, ℕ, length, min, map, sum, take, get_or, ap, sym, subst, arith}
+use Rattle.std.proofs.Common.{◌≡◌, ◌<◌, ◌*◌, ◌-◌, ◌^◌, ℕ, length, min, get_or, subst}
 use Rattle.tower_types.specs.Records.{saturated}
 use Rattle.tower_syntax.specs.declared.arch.Emitter.{Emitter as EmitterValue}
 use Rattle.tower_syntax.specs.Arch.{Emitter}

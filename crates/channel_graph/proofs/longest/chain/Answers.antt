@@ -1,7 +1,7 @@
-use Rattle.std.proofs.Common.{◌≡◌, ◌<◌, ◌≤◌, ◌+◌, ◌∙◌, ℕ, List, length, replicate, refl, ap, sym, subst, arith}
+use Rattle.std.proofs.Common.{◌≡◌, ◌≤◌, ◌+◌, ◌∙◌, ℕ, List, length, replicate, ap, sym, subst, arith}
 use Rattle.std.proofs.lemmas.List.{length-map}
 use Rattle.tower_syntax.specs.View.{handler_of}
-use Rattle.channel_graph.specs.Lengths.{AreStarts, AreBefore, HasWalk, IsStart, IsOnMark}
+use Rattle.channel_graph.specs.Lengths.{AreBefore, HasWalk, IsStart, IsOnMark}
 use Rattle.channel_graph.proofs.Walked.{walk_is_short, all_start, no_walk_yet, starts_before, walk_found, none_longer, chain_found, chain_within}
 use Rattle.channel_graph.proofs.longest.chain.Goals as goal
 

@@ -1,9 +1,8 @@
-use Rattle.std.proofs.Common.{◌≡◌, ◌<◌, ◌∙◌, ℕ, List, Bool, true, false, cond, length, ap, sym, subst, refl, arith}
+use Rattle.std.proofs.Common.{◌≡◌, ◌<◌, ◌∙◌, List, Bool, true, false, cond, length, ap, subst, refl, arith}
 use mir.Val.{bool_byte}
 use Rattle.std.proofs.lemmas.List.{length-map}
 use Rattle.tower_syntax.specs.View.{handler_of}
 use Rattle.channel_graph.specs.Ranked.{is_loud}
-use Rattle.channel_graph.specs.Lengths.{AreBefore}
 use Rattle.channel_graph.proofs.Walked.{before_more}
 use Rattle.channel_graph.proofs.longest.one_before.Goals as goal
 

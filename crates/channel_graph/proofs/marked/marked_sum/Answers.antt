@@ -1,4 +1,4 @@
-use Rattle.std.proofs.Common.{◌≡◌, ◌+◌, ◌∙◌, ℕ, false, cond, length, map, sum, get_or, arith, ap, sym}
+use Rattle.std.proofs.Common.{◌≡◌, ◌+◌, ◌∙◌, false, cond, length, map, sum, get_or, arith, ap, sym}
 use Rattle.tower_types.specs.Records.{saturated}
 use Rattle.channel_graph.specs.Ranked.{marked_below}
 use Rattle.channel_graph.proofs.Saturating.{saturating_step}

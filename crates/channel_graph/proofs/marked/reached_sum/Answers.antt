@@ -1,4 +1,4 @@
-use Rattle.std.proofs.Common.{◌≡◌, ◌∙◌, length, map, sum, ap, sym, subst, List, Bool}
+use Rattle.std.proofs.Common.{◌≡◌, ◌∙◌, length, map, sum, ap, sym, subst}
 use Rattle.tower_types.specs.Records.{saturated}
 use Rattle.channel_graph.specs.Table.{IsTable}
 use Rattle.channel_graph.specs.Ranked.{marked_below}

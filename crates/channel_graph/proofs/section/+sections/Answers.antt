@@ -1,4 +1,4 @@
-use Rattle.std.proofs.Common.{◌≡◌, arith, ap, sym, subst}
+use Rattle.std.proofs.Common.{◌≡◌, subst}
 use Rattle.tower_types.specs.Records.{saturated}
 use Rattle.tower_syntax.specs.declared.body.Stmt.{Stmt as StmtValue}
 use Rattle.tower_syntax.specs.View.{stmt_of}

@@ -1,4 +1,4 @@
-use Rattle.std.proofs.Common.{◌≡◌, ap, sym, subst, map, List, All}
+use Rattle.std.proofs.Common.{sym, subst, map, List, All}
 use Rattle.tower_syntax.specs.declared.body.Body.{Body as BodyValue}
 use Rattle.tower_syntax.specs.View.{handler_of, body_of}
 use Rattle.tower_syntax.specs.WellNumbered.{IsNumberedBody}

@@ -1,4 +1,4 @@
-use Rattle.std.proofs.Common.{◌≡◌, ◌+◌, ◌∙◌, ap, sym, refl, arith}
+use Rattle.std.proofs.Common.{◌+◌, ◌∙◌, ap, sym, refl}
 use Rattle.tower_types.specs.Ty.{words}
 use Rattle.tower_types.specs.Records.{saturated}
 use Rattle.tower_syntax.specs.View.{expr_of}

@@ -1,10 +1,8 @@
-use Rattle.std.proofs.Common.{◌≡◌, ◌∙◌, length, ap, sym, subst, List, slice_get, Some, refl, inl, inr}
-use Rattle.tower_types.specs.declared.ty.Ty.{Ty as TyValue}
-use Rattle.tower_types.specs.Ty.{Name, Fields, Records, rec, shape_of, shape_of_fields, table_of, shape_in}
+use Rattle.std.proofs.Common.{◌≡◌, ◌∙◌, sym, subst, slice_get, Some, refl, inl, inr}
+use Rattle.tower_types.specs.Ty.{Records, rec, shape_of, shape_of_fields, table_of}
 use Rattle.tower_types.specs.View.{ty_of, fields_of}
-use Rattle.tower_syntax.specs.Weights.{shape_at, field_shapes}
 use Rattle.channel_graph.specs.Scoped.{HasShape}
-use Rattle.channel_graph.proofs.Shaped.{part_field, part_field_scalar, part_field_array, part_element, part_element_scalar, part_element_record, record_is_all, element_numbered, fields_numbered}
+use Rattle.channel_graph.proofs.Shaped.{part_field, part_element_scalar, part_element_record, record_is_all, fields_numbered}
 use Rattle.channel_graph.proofs.Looked.{field_found, field_none}
 use Rattle.channel_graph.proofs.shapes.part_type.Goals as goal
 

@@ -1,4 +1,4 @@
-use Rattle.std.proofs.Common.{◌≡◌, ◌<◌, ◌∙◌, length, map, ap, sym, subst}
+use Rattle.std.proofs.Common.{map, ap, subst}
 use Rattle.tower_types.specs.Ty.{shape_in, table_of}
 use Rattle.tower_types.specs.View.{ty_of}
 use Rattle.tower_syntax.specs.View.{emitter_of, handler_of}

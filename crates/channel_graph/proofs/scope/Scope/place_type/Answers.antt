@@ -1,10 +1,9 @@
-use Rattle.std.proofs.Common.{◌≡◌, ◌∙◌, ◌+◌, ◌<◌, ◌≤◌, length, take, ap, sym, subst, map, [], arith, List}
+use Rattle.std.proofs.Common.{◌≡◌, ◌∙◌, ◌+◌, length, take, ap, sym, subst, map, [], arith, List}
 use Rattle.std.proofs.Math.Seq.{take-length}
-use Rattle.tower_types.specs.Ty.{Shape}
 use Rattle.tower_types.specs.View.{ty_of}
 use Rattle.tower_syntax.specs.declared.body.PlaceStep.{PlaceStep as StepValue}
-use Rattle.tower_syntax.specs.View.{place_of, steps_of}
-use Rattle.tower_syntax.specs.Weights.{root_shape, place_shape, steps_shape, no_shape}
+use Rattle.tower_syntax.specs.View.{steps_of}
+use Rattle.tower_syntax.specs.Weights.{root_shape, steps_shape}
 use Rattle.channel_graph.specs.Stepped.{step_of}
 use Rattle.channel_graph.specs.Site.{scope_at}
 use Rattle.channel_graph.specs.Scoped.{HasShape, shape_by, part_shape}

@@ -1,4 +1,4 @@
-use Rattle.std.proofs.Common.{◌≡◌, ◌∙◌, length, map, ap, sym, subst}
+use Rattle.std.proofs.Common.{◌≡◌, ◌∙◌, length, ap, sym, subst}
 use Rattle.tower_types.specs.Ty.{table_of}
 use Rattle.tower_types.specs.View.{ty_of, fields_of}
 use Rattle.tower_syntax.specs.Weights.{no_shape, shape_at, field_shapes, states_of}

@@ -1,4 +1,4 @@
-use Rattle.std.proofs.Common.{◌≡◌, ap, arith, max, sym, ◌∙◌}
+use Rattle.std.proofs.Common.{ap, sym, ◌∙◌}
 use Rattle.tower_types.specs.Records.{saturated}
 use Rattle.channel_graph.specs.Counting.{counting_of}
 use Rattle.channel_graph.proofs.Saturating.{saturated-max}
