@@ -9,6 +9,12 @@ pub record GrowsBy (f : ℕ → ℕ) (old new : List ℕ) : Type 0 where
   pub each : length new ≡ length old
   pub least : (e : ℕ) → e < length old → saturated (slice_index_or old e 0 + f e) ≤ slice_index_or new e 0
 
+-- each number has grown if at all, and at the first n places it is no less than the other one
+pub record Tops (old others : List ℕ) (n : ℕ) (new : List ℕ) : Type 0 where
+  pub each : length new ≡ length old
+  pub own : (e : ℕ) → e < length old → slice_index_or old e 0 ≤ slice_index_or new e 0
+  pub other : (e : ℕ) → e < n → slice_index_or others e 0 ≤ slice_index_or new e 0
+
 -- 1 at emitter k, and 0 at the others
 abbrev pub one_of : ℕ → ℕ → ℕ
 one_of k e = elim (k == e) [ true ↦ 1 | false ↦ 0 ]

@@ -1,10 +1,10 @@
-//! For all emitters of a handler at once, numbers that are at least how many messages it may emit: as `most` counts
-//! them, but with both branches of an `if`.
+//! For all emitters of a handler at once, numbers that are at least how many messages it may emit, cut at 2^64 - 1:
+//! each statement is looked at once, and each `if` takes one copy of the numbers.
 
-ghost use Rattle.std.specs.Prelude.{◌≡◌, ◌*◌, IfOk};
+ghost use Rattle.std.specs.Prelude.{◌≡◌, ◌*◌, length, IfOk, OnOk};
 ghost use Rattle.tower_syntax.specs.View.{stmt_of, all_stmts_of, handler_of};
 ghost use Rattle.tower_syntax.specs.Weights.{most_of_stmt, most_of_stmts};
-ghost use Rattle.channel_graph.specs.Rough.{GrowsBy, one_of, IsRough};
+ghost use Rattle.channel_graph.specs.Rough.{GrowsBy, Tops, one_of, IsRough};
 
 use sqlite_items::Items;
 use std::alloc::Global;
@@ -21,32 +21,58 @@ fn add(totals: &mut Items<u64>, k: u32, more: u64)
     }
 }
 
-/// Adds what some statements emit in so many turns.
-#[cycle(roughly)]
-fn add_stmts(totals: &mut Items<u64>, stmts: &[Stmt], turns: u64)
-    ensures { GrowsBy (λ e. turns * most_of_stmts e (all_stmts_of stmts.now)) totals.old totals.new }
+/// Takes the greater of two numbers at each place.
+fn raise(totals: &mut Items<u64>, others: &[u64])
+    requires { length others.now ≡ length totals.old }
+    ensures { Tops totals.old others.now (length totals.old) totals.new }
 {
-    for stmt in stmts {
-        add_stmt(totals, stmt, turns);
+    for (k, other) in others.iter().enumerate() {
+        if totals.as_slice()[k] < *other {
+            totals.set(k, *other);
+        }
     }
 }
 
-/// Adds what a statement emits in so many turns.
+/// Adds what some statements emit in so many turns.
 #[cycle(roughly)]
-fn add_stmt(totals: &mut Items<u64>, stmt: &Stmt, turns: u64)
-    ensures { GrowsBy (λ e. turns * most_of_stmt e (stmt_of stmt.now)) totals.old totals.new }
+fn add_stmts(
+    alloc: Global,
+    totals: &mut Items<u64>,
+    stmts: &[Stmt],
+    turns: u64,
+) -> Result<(), NoMemory>
+    ensures { OnOk result
+        (GrowsBy (λ e. turns * most_of_stmts e (all_stmts_of stmts.now)) totals.old totals.new) }
+{
+    for stmt in stmts {
+        add_stmt(alloc, totals, stmt, turns)?;
+    }
+    Ok(())
+}
+
+/// Adds what a statement emits in so many turns: of an `if`, for each emitter what the branch emits that emits more.
+#[cycle(roughly)]
+fn add_stmt(alloc: Global, totals: &mut Items<u64>, stmt: &Stmt, turns: u64) -> Result<(), NoMemory>
+    ensures { OnOk result (GrowsBy (λ e. turns * most_of_stmt e (stmt_of stmt.now)) totals.old totals.new) }
 {
     match stmt {
-        Stmt::Bind(_, _) | Stmt::Local(_) | Stmt::Set(_, _) | Stmt::Copy(_, _) => {}
+        Stmt::Bind(_, _) | Stmt::Local(_) | Stmt::Set(_, _) | Stmt::Copy(_, _) => Ok(()),
         Stmt::Branch(_, first, second) => {
-            add_stmts(totals, first.as_slice(), turns);
-            add_stmts(totals, second.as_slice(), turns);
+            let mut others = Items::from_slice(alloc, totals.as_slice())?;
+            add_stmts(alloc, totals, first.as_slice(), turns)?;
+            add_stmts(alloc, &mut others, second.as_slice(), turns)?;
+            raise(totals, others.as_slice());
+            Ok(())
         }
         Stmt::Loop(_, times, body) => {
             let all = turns.saturating_mul(u64::from(*times));
-            add_stmts(totals, body.as_slice(), all);
+            add_stmts(alloc, totals, body.as_slice(), all)?;
+            Ok(())
         }
-        Stmt::Emit(k, _) => add(totals, *k, turns),
+        Stmt::Emit(k, _) => {
+            add(totals, *k, turns);
+            Ok(())
+        }
     }
 }
 
@@ -56,7 +82,7 @@ pub(crate) fn rough(alloc: Global, h: &Handler) -> Result<Items<u64>, NoMemory>
 {
     let mut totals = Items::from_vec(vec![in alloc; 0u64; h.emitters.len()]?);
     for body in h.callbacks.as_slice() {
-        add_stmts(&mut totals, body.stmts.as_slice(), 1);
+        add_stmts(alloc, &mut totals, body.stmts.as_slice(), 1)?;
     }
     Ok(totals)
 }
