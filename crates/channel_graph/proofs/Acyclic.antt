@@ -127,7 +127,7 @@ near_closed arch h n below enough =
     ] in
     subst (IsBackClosed arch) (sym r.is) closed
 
-follows_below : (arch : Arch) (h k : ℕ) → AreListeners arch → Follows arch (start.Handler h) k → k < length arch.handlers
+pub follows_below : (arch : Arch) (h k : ℕ) → AreListeners arch → Follows arch (start.Handler h) k → k < length arch.handlers
 follows_below arch h k listed (begins j b) = (link_of arch h j listed b).below
 follows_below arch h k listed (goes g j f link) = (link_of arch g j listed link).below
 
@@ -174,7 +174,7 @@ first_each f (x ∷ xs) e k m =
     split None b e = (refl, e)
     split (Some y) b e = cc
 
-each_first : {A : Type 0} (f : ℕ → Option A) (xs : List ℕ) → ((k : ℕ) → In k xs → f k ≡ None) → first_of_all f xs ≡ None
+pub each_first : {A : Type 0} (f : ℕ → Option A) (xs : List ℕ) → ((k : ℕ) → In k xs → f k ≡ None) → first_of_all f xs ≡ None
 each_first f [] none = refl
 each_first f (x ∷ xs) none = ap (λ o. or_else o (first_of_all f xs)) (none x (inl refl)) ∙ each_first f xs (λ k m. none k (inr m))
 

@@ -1,5 +1,6 @@
 pub mod Saturating
 pub mod Counted
+pub mod Roughly
 pub mod Listed
 pub mod Members
 pub mod Linked
@@ -13,6 +14,7 @@ pub mod Rounds
 pub mod Sized
 pub mod Acyclic
 pub mod Peeled
+pub mod Leveled
 pub mod Weighed
 pub mod Looked
 pub mod Shaped

@@ -52,7 +52,7 @@ list_more f n xs ys x before grown here =
     let next : suc n ≡ n + 1 = omega arith in
     grown ∙ ap (λ zs. zs ++ x ∷ []) before ∙ ap (λ y. map f (numbers_before n []) ++ y ∷ []) here ∙ sym (map-append f (numbers_before n []) (n ∷ [])) ∙ ap (map f) (sym (numbers_before-suc n)) ∙ ap (λ m. map f (numbers_before m [])) next
 
--- the instructions of a handler that is read
+-- what the code of a handler that is read weighs
 pub code_read : (arch : Arch) (h : ℕ) (v : HandlerValue) (items : List EmitterValue) (links stands out : ℕ) → slice_get arch.handlers h ≡ Some (handler_of v) → items ≡ v.emitters → stands ≡ saturated (section_by standing arch (handler_of v)) → links ≡ saturated (sum (map (link_weight arch nothing) (map emitter_of items))) → out ≡ min (stands + links) (2 ^ 64 - 1) → out ≡ saturated (code_of arch h)
 code_read arch h v items links stands out found same stands_is links_is out_is =
     let emitters = emitters_read arch h v items found same in

@@ -4,7 +4,9 @@ pub mod Circuit
 pub mod Worked
 pub mod Ranked
 pub mod Settled
+pub mod Levels
 pub mod Over
+pub mod Rough
 pub mod Chain
 pub mod Relay
 pub mod Lengths

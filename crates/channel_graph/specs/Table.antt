@@ -36,11 +36,11 @@ further arch f h = section_of arch h + sum (map (emitter_weight arch f) (handler
 abbrev pub frame_of : Arch → ℕ → ℕ
 frame_of arch h = handler_memory arch (handler arch h)
 
--- the instructions of a handler in one task
+-- what the code of a handler weighs
 abbrev pub code_of : Arch → ℕ → ℕ
 code_of arch h = handler_code arch (handler arch h)
 
--- the instructions that hand what an emitter holds to the subscribers
+-- an emitter in the code, whatever its bound
 abbrev pub link_weight : Arch → (ℕ → ℕ) → Emitter → ℕ
 link_weight arch f e = 32 + channel_weight arch f e.channel
 

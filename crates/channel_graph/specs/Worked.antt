@@ -1,6 +1,6 @@
 -- Small systems with cycles, and one with loops, beside what is shown and counted.
 use Rattle.std.specs.Prelude.{◌≡◌, [], ◌∷◌, Some, None, codes, map}
-use Rattle.tower_types.specs.declared.scalar.Scalar.TheVariants.{Ix}
+use Rattle.tower_types.specs.declared.scalar.Scalar.TheVariants.{Bool, Ix}
 use Rattle.tower_types.specs.Ty.{scalar}
 use Rattle.tower_syntax.specs.declared.body.Root.TheVariants.{Param, State}
 use Rattle.tower_syntax.specs.declared.arch.On.TheVariants as on
@@ -9,7 +9,7 @@ use Rattle.tower_syntax.specs.Tree.{set, emit, loop, branch, stmt, no_stmts}
 use Rattle.tower_syntax.specs.Arch.{Arch, Handler}
 use Rattle.tower_syntax.specs.Graph.{reached_by, subs}
 use Rattle.tower_syntax.specs.Weights.{most, cost, memory, code, source_numbers}
-use Rattle.tower_syntax.specs.Examples.{cyc, clock, emitter, callback, handler, value_at, whole}
+use Rattle.tower_syntax.specs.Examples.{cyc, clock, emitter, callback, handler, number, value_at, whole}
 use Rattle.tower_syntax.specs.Flight.{flight}
 use Rattle.channel_graph.specs.Circuit.{shown}
 use Rattle.channel_graph.specs.Relay.{relay}
@@ -27,14 +27,14 @@ ring =
       listeners = to.Handler 0 ∷ to.Handler 1 ∷ to.Handler 2 ∷ [];
     }
 
--- `ring` where k leads to itself as well
+-- `ring` where g emits on b, k leads to itself as well, and h emits nothing
 abbrev pub knot : Arch
 knot =
     let passes_on = callback (codes "v") [] (emit 0 (value_at Param) ∷ []) in
     record ring {
       handlers =
           handler (codes "g") 0 (on.Source 0) (emitter (codes "e") 1 1 ∷ []) passes_on
-          ∷ handler (codes "h") 0 (on.Channel 0) [] passes_on
+          ∷ handler (codes "h") 0 (on.Channel 0) [] (callback (codes "v") [] [])
           ∷ handler (codes "k") 0 (on.Channel 1) (emitter (codes "e") 0 1 ∷ emitter (codes "f") 1 1 ∷ []) passes_on
           ∷ [];
     }
@@ -47,9 +47,9 @@ four_turns = handler (codes "h") 0 (on.Source 0) (emitter (codes "e") 0 4 ∷ []
 -- an `if` of two emits and one
 abbrev pub two_or_one : Handler
 two_or_one = handler (codes "h") 0 (on.Source 0) (emitter (codes "e") 0 2 ∷ [])
-    (callback (codes "v") [] (branch (value_at Param) (stmt (emit 0 (value_at Param)) (stmt (emit 0 (value_at Param)) no_stmts)) (stmt (emit 0 (value_at Param)) no_stmts) ∷ []))
+    (callback (codes "v") [] (branch (number Bool 1) (stmt (emit 0 (value_at Param)) (stmt (emit 0 (value_at Param)) no_stmts)) (stmt (emit 0 (value_at Param)) no_stmts) ∷ []))
 
--- `clock` with two loops of 65,536 turns round its one `set`
+-- `clock` whose callback is two loops of 65,536 turns round `(set n n)`
 abbrev pub long_clock : Arch
 long_clock =
     record clock {

@@ -6,11 +6,14 @@ ghost use Rattle.tower_syntax.specs.Graph.{leads};
 ghost use Rattle.tower_syntax.specs.WellNumbered.{AreListeners, IsWellNumbered};
 ghost use Rattle.channel_graph.specs.Reaching.{AreAudiences, IsWithin};
 ghost use Rattle.channel_graph.specs.Circuit.{walk, walk_round, first_of_all, shown, shown_at, IsAcyclic};
-ghost use Rattle.channel_graph.specs.Settled.{IsSettled};
+ghost use Rattle.channel_graph.specs.Settled.{AreClear};
 ghost use Rattle.channel_graph.specs.Ranked.{AreRanked, AreLoud, is_loud, MarksChannel, AreLooping, Widens, least_ranked, marked_below};
 
+use crate::levels::{behind_next, levels};
+use crate::links::Links;
+use crate::looping::looping;
 use crate::reach::{Start, audiences, reach_from};
-use crate::settled::settled;
+use crate::settled::{clear_sources, settled};
 use sqlite_items::Items;
 use std::alloc::Global;
 use tower_syntax::{Arch, Emitter, On};
@@ -169,42 +172,6 @@ fn way_round(alloc: Global, arch: &Arch, h: u32) -> Result<Option<Items<u32>>, N
     Ok(None)
 }
 
-/// Whether a handler leads back to itself.
-fn is_looping(
-    alloc: Global,
-    arch: &Arch,
-    heard: &[Items<u32>],
-    done: &[bool],
-    h: u32,
-) -> Result<bool, NoMemory>
-    requires heard { AreAudiences arch.now (length arch.now.handlers) heard.now }
-    requires listed { AreListeners arch.now }
-    requires done { IsSettled arch.now done.now }
-    requires handler { h < length arch.now.handlers }
-    ensures { IfOk result (λ found. found ≡ false → walk_round arch.now h ≡ None) }
-{
-    if done[h as usize] {
-        return Ok(false);
-    }
-    let reached = reach_from(alloc, arch, heard, Start::Handler(h))?;
-    Ok(reached.as_slice()[h as usize])
-}
-
-/// Marks each handler that leads back to itself.
-fn looping(alloc: Global, arch: &Arch, heard: &[Items<u32>]) -> Result<Items<bool>, NoMemory>
-    requires heard { AreAudiences arch.now (length arch.now.handlers) heard.now }
-    requires listed { AreListeners arch.now }
-    ensures { IfOk result (AreLooping arch.now (length arch.now.handlers)) }
-{
-    let done = settled(alloc, arch, heard)?;
-    let mut marks = Items::new(alloc);
-    for h in 0..arch.handlers().len() {
-        let back = is_looping(alloc, arch, heard, done.as_slice(), h as u32)?;
-        marks.push(back)?;
-    }
-    Ok(marks)
-}
-
 /// The walk round from the first of the marked handlers that leads back to itself.
 fn first_round(
     alloc: Global,
@@ -227,19 +194,25 @@ fn first_round(
     Ok(None)
 }
 
-/// The cycle that is shown of a source.
+/// The cycle that is shown of a source: none where the source is clear.
 fn cycle_of(
     alloc: Global,
     arch: &Arch,
     heard: &[Items<u32>],
     looping: &[bool],
+    clear: &[bool],
     source: u32,
 ) -> Result<Option<CycleFound>, NoMemory>
     requires heard { AreAudiences arch.now (length arch.now.handlers) heard.now }
     requires looping { AreLooping arch.now (length arch.now.handlers) looping.now }
+    requires clear { AreClear arch.now clear.now }
     requires listed { AreListeners arch.now }
+    requires source { source < length arch.now.sources }
     ensures { IfOk result (λ found. found ≡ shown_at arch.now source) }
 {
+    if clear[source as usize] {
+        return Ok(None);
+    }
     let marks = reach_from(alloc, arch, heard, Start::Source(source))?;
     match first_round(alloc, arch, marks.as_slice(), looping)? {
         Some(walk) => Ok(Some(CycleFound { source, walk })),
@@ -254,9 +227,21 @@ pub fn cycle(alloc: Global, arch: &Arch) -> Result<Option<CycleFound>, NoMemory>
     ensures none { IfOk result (λ found. (found ≡ None) ↔ IsAcyclic arch.now) }
 {
     let heard = audiences(alloc, arch)?;
-    let loops = looping(alloc, arch, heard.as_slice())?;
+    let links = Links::new(alloc, arch)?;
+    let order = behind_next(alloc, links.ahead.as_slice())?;
+    let levels = levels(alloc, links.back.as_slice(), order.as_slice())?;
+    let loops = looping(alloc, arch, levels.as_slice())?;
+    let done = settled(alloc, arch, heard.as_slice(), order.as_slice())?;
+    let clear = clear_sources(alloc, arch, done.as_slice())?;
     for s in 0..arch.sources().len() {
-        let found = cycle_of(alloc, arch, heard.as_slice(), loops.as_slice(), s as u32)?;
+        let found = cycle_of(
+            alloc,
+            arch,
+            heard.as_slice(),
+            loops.as_slice(),
+            clear.as_slice(),
+            s as u32,
+        )?;
         if let Some(cycle) = found {
             return Ok(Some(cycle));
         }

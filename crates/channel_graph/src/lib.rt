@@ -1,18 +1,23 @@
-//! Who hears whom in a system: subscribers, what a source reaches, the cycle that is shown and the longest walk; and
-//! what the text weighs: how many messages a handler may emit, what a message costs, and the memory and code of a system.
+//! Who hears whom in a system: subscribers, what a source reaches, the cycle that is shown, the longest walk. And the
+//! weights of its text: how many messages a handler may emit and which emitter is over its bound, what a message of a
+//! source costs, and what the memory and the code weigh.
 #![tactic(auto)]
 
 mod bounds;
 mod channels;
 mod circuit;
+mod code_weight;
 mod counting;
 mod delivery;
-mod instructions;
 pub mod laws;
+mod levels;
+mod links;
 mod listening;
 mod longest;
+mod looping;
 mod marked;
 mod reach;
+mod rough;
 mod scope;
 mod section;
 mod settled;
@@ -22,9 +27,9 @@ mod weight;
 
 pub use bounds::{Over, first_over};
 pub use circuit::{CycleFound, cycle};
+pub use code_weight::code;
 pub use counting::most;
 pub use delivery::costs;
-pub use instructions::code;
 pub use listening::subscribers;
 pub use longest::chain;
 pub use reach::reached;

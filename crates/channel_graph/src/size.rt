@@ -1,4 +1,4 @@
-//! The words of memory that a system needs, or 2^64 - 1 where it needs more.
+//! The weight of a system's memory in words, or 2^64 - 1 where it is more.
 
 ghost use Rattle.std.specs.Prelude.{◌≡◌, ◌<◌, ◌+◌, ◌*◌, length, All, IfOk, map, sum};
 ghost use Rattle.tower_types.specs.Ty.{words, shape_in, table_of};
@@ -127,8 +127,8 @@ fn frames(alloc: Global, arch: &Arch) -> Result<Items<u64>, NoMemory>
     Ok(frames)
 }
 
-/// The words of a source's task, by those of the handlers.
-fn task_words(
+/// The words of a source, by those of the handlers.
+fn source_memory(
     alloc: Global,
     arch: &Arch,
     heard: &[Items<u32>],
@@ -155,8 +155,8 @@ pub fn memory(alloc: Global, arch: &Arch) -> Result<u64, NoMemory>
     let frames = frames(alloc, arch)?;
     let mut total = states_words(arch);
     for s in 0..arch.sources().len() {
-        let task = task_words(alloc, arch, heard.as_slice(), frames.as_slice(), s as u32)?;
-        total = total.saturating_add(task);
+        let more = source_memory(alloc, arch, heard.as_slice(), frames.as_slice(), s as u32)?;
+        total = total.saturating_add(more);
     }
     Ok(total)
 }

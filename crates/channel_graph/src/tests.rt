@@ -209,12 +209,12 @@ fn finds_an_emitter_over_its_bound(rt: HostRuntime) -> Result<(), Fail> {
     let held = relay(alloc, 1)?;
     let over = relay(alloc, 0)?;
     assert_eq!(rt; most(&held, 0, 0), 1);
-    assert_eq!(rt; first_over(&held), None);
+    assert_eq!(rt; first_over(alloc, &held)?, None);
     let found = Over {
         handler: 0,
         emitter: 0,
         most: 1,
     };
-    assert_eq!(rt; first_over(&over), Some(found));
+    assert_eq!(rt; first_over(alloc, &over)?, Some(found));
     Ok(())
 }

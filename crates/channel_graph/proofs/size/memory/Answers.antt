@@ -14,7 +14,7 @@ loop-s-preserved c =
     let s = c.loop-s.s in
     let states = sum (map (monitor_words arch) arch.monitors) in
     let more : states + sum (map (source_memory arch) (numbers_before (s + 1) [])) ≡ (states + sum (map (source_memory arch) (numbers_before s []))) + source_memory arch s = omega (arith, sum_numbers (source_memory arch) s) in
-    saturating_step c.loop-s.total c.in_ok-task.task c.saturating_add-total.result _ _ _ c.loop-s.invariant c.in_ok-task.ensures c.saturating_add-total.ensures more
+    saturating_step c.loop-s.total c.in_ok-more.more c.saturating_add-total.result _ _ _ c.loop-s.invariant c.in_ok-more.ensures c.saturating_add-total.ensures more
 
 pub returns : goal.returns
 returns c =

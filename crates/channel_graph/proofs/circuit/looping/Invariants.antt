@@ -1,5 +1,0 @@
-use Rattle.channel_graph.specs.Ranked.{AreLooping}
-use Rattle.channel_graph.proofs.circuit.looping.Given as goal
-
-abbrev pub invariant-loop-h : goal.invariant-loop-h
-invariant-loop-h l = AreLooping l.arch l.h l.marks
