@@ -24,7 +24,6 @@ pub mod Tables
 pub mod Delivered
 pub mod Rounded
 pub mod Walked
-pub mod Relayed
 pub mod Recursed
 pub mod Firsts
 pub mod ShownWalk

@@ -35,5 +35,3 @@ pub use longest::chain;
 pub use reach::reached;
 pub use size::memory;
 
-#[cfg(test)]
-mod tests;
