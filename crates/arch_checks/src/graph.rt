@@ -21,7 +21,7 @@ pub(crate) fn check_bounds(alloc: Global, arch: &Arch) -> Result<(), Fault>
     ensures bounded { OnOk result (NoneOver arch.now) }
     ensures fault { IfErr result (λ f. (f ≡ Fault.NoMemory) ⊎ IsBoundFault arch.now f) }
 {
-    let Some(over) = first_over(arch) else {
+    let Some(over) = first_over(alloc, arch)? else {
         return Ok(());
     };
     let handler = arch.handler(over.handler);
