@@ -16,7 +16,6 @@ pub mod StmtWalk
 pub mod Nodes
 pub mod Typing
 pub mod First
-pub mod Law
 pub mod Sequence
 pub mod DeepRows
 pub mod Within
