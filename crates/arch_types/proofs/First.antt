@@ -22,7 +22,7 @@ use Rattle.arch_types.specs.Typing.{Env, Path, with_step, Becomes, BecomesPlace,
 use Rattle.arch_types.specs.Body.{place_child, expr_child}
 use Rattle.arch_types.specs.Order.{AscendsPlace, Ascends}
 use Rattle.arch_types.specs.Walk.{Known, known_type, TypedExpr, TypedPlace, typed, typed_place, scalar_in, and_then, tested, literal, un_row, bin_row, choose_row, cast_row, get_row, index_row, field_found}
-use Rattle.arch_types.specs.Right.{env_with, Uses, UsesPlace, Right, RightPlace}
+use Rattle.arch_types.proofs.Right.{env_with, Uses, UsesPlace, Right, RightPlace}
 use Rattle.arch_types.proofs.Same.{same_true}
 use Rattle.arch_types.proofs.Nodes.{Ones, Spans, first_child, next_child, in_children, first_miss, next_miss, in_types, unless_none}
 use Rattle.arch_types.proofs.Typing.{applies_wanted, applies_wanted_one, wanted_same, get_children, index_children, un_children, bin_children, choose_children, cast_children, get_spans, index_spans, un_spans, bin_spans, choose_spans, cast_spans, type_one, one_place, one_expr, sound, sound_place}

@@ -8,6 +8,7 @@ pub mod SoundHandlers
 pub mod SoundShallow
 pub mod SoundOnce
 pub mod Sound
+pub mod Right
 pub mod Same
 pub mod Steps
 pub mod Fields

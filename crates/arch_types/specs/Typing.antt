@@ -43,6 +43,10 @@ type_of (word at s) = scalar s
 type_of (rec u) = record_type (record_number u.target)
 type_of (array_form at n t) = array n (type_of t)
 
+-- the type that stands where none is known
+abbrev pub no_type : Ty
+no_type = scalar is.Bool
+
 -- the place of a field in its record, with its type
 abbrev pub one_later : Option (ℕ × Ty) → Option (ℕ × Ty)
 one_later found = option_map (λ f. (suc f.0, f.1)) found
@@ -111,9 +115,6 @@ abbrev pub HasPlace : Env → RawPlace Link → Ty → Type 0
 HasPlace Γ p t = (q : Path) × BecomesPlace Γ p t q
 
 -- ---- what is asked of children
-
-abbrev pub alone : (Ty → Option TypeFault) → Test
-alone test before t = test t
 
 abbrev pub wants : Env → ℕ → Wanted → Test
 wants Γ at w before t = misfit Γ.names at w t
