@@ -6,12 +6,12 @@ use Rattle.tower_types.specs.Ty.{Ty, Name, Fields}
 use Rattle.tower_syntax.specs.declared.named.Target.{Target}
 use Rattle.tower_syntax.specs.declared.named.Target.TheVariants as target
 use Rattle.tower_syntax.specs.RawTree.{Link, RawPlace, root, get, index, RawExpr, truth, read, lit, un, bin, choose, cast, RawStmt, bind, local, set, copy, branch, loop, emit}
-use Rattle.arch_types.specs.Typing.{Env}
+use Rattle.arch_types.specs.Typing.{Env, no_type}
 use Rattle.arch_types.specs.Body.{with_name, writable_with}
 use Rattle.tower_syntax.specs.Typed.{Use, read_only, with_name as with_use, IsInScope}
 use Rattle.arch_types.specs.Numbered.{Counts, past, naming, IsSeen, SeesPlace, Sees, bound_by, bound_by_all, after}
-use Rattle.arch_types.specs.Walk.{Known, no_type, type_at, known_type, may_write_among, with_binders, binding}
-use Rattle.arch_types.specs.Right.{IsKnown, env_with, Uses, UsesPlace, Knows, Agrees, IsWithin}
+use Rattle.arch_types.specs.Walk.{Known, type_at, known_type, may_write_among, with_binders, binding}
+use Rattle.arch_types.proofs.Right.{IsKnown, env_with, Uses, UsesPlace, Knows, Agrees, IsWithin}
 use Rattle.arch_types.proofs.Same.{nat_eq_true, nat_eq_refl}
 use Rattle.arch_types.proofs.Within.{one_with}
 

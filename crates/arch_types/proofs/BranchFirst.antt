@@ -17,7 +17,7 @@ use Rattle.arch_types.specs.Order.{AscendsStmt}
 use Rattle.arch_types.specs.Numbered.{bound_by_all}
 use Rattle.arch_types.specs.Walk.{Known, TypedExpr, and_then, tested, high_expr, earlier, first_high, behind, Walked, AllWalked, with_binders}
 use Rattle.arch_types.specs.Walk as walk
-use Rattle.arch_types.specs.Right.{env_with, Right, IsOrdered, AreOrdered, Told, Knows, RightStmt, RightAll}
+use Rattle.arch_types.proofs.Right.{env_with, Right, IsOrdered, AreOrdered, Told, Knows, RightStmt, RightAll}
 use Rattle.arch_types.proofs.Same.{same_true}
 use Rattle.arch_types.proofs.Nodes.{unless_none}
 use Rattle.arch_types.proofs.Typing.{one_expr, sound}

@@ -5,7 +5,7 @@ use Rattle.arch_types.specs.declared.fault.TypeFault.{TypeFault}
 use Rattle.arch_types.specs.Offence.{Faults, Child, Test, Row, end, child, none_before, Node, offset, IsClean, IsFirst}
 use Rattle.arch_types.specs.Body.{told, IsDeep}
 use Rattle.arch_types.specs.Walk.{earlier, first_high, too_high}
-use Rattle.arch_types.specs.Right.{Told}
+use Rattle.arch_types.proofs.Right.{Told}
 use Rattle.arch_types.proofs.Nodes.{Ones, Spans, node_clean, types_clean, none_of_one, none_of_two}
 use Rattle.arch_types.proofs.First.{one_child, one_type, two_first, two_second, two_third, two_fourth}
 use Rattle.arch_types.proofs.Sequence.{told_both, told_first, told_deep}

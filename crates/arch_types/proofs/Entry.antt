@@ -13,7 +13,7 @@ use Rattle.arch_types.specs.Outline.{each, Written, emitter_of}
 use Rattle.arch_types.specs.File.{entry, writable_at_entry}
 use Rattle.arch_types.specs.Numbered.{Counts}
 use Rattle.arch_types.specs.Walk.{Known, type_at, known_type, may_write_among}
-use Rattle.arch_types.specs.Right.{IsKnown, Agrees, IsWithin}
+use Rattle.arch_types.proofs.Right.{IsKnown, Agrees, IsWithin}
 use Rattle.arch_types.specs.Turns.{known_in}
 
 state_at : (fs : Fields) (k : ℕ) → k < length fs → option_map (λ f. f.1) (slice_get fs k) ≡ Some (type_at fs k)

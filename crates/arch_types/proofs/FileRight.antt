@@ -16,7 +16,7 @@ use Rattle.arch_types.specs.Outline.{each, outline, with_handlers, Written, hand
 use Rattle.arch_types.specs.File.{entry, IsBody, AreBodies, IsHandler, AreHandlers, IsChecked, Offence, start_of, AscendCallbacks, AscendsFile}
 use Rattle.arch_types.specs.Numbered.{Counts, SeesAll, IsPartOf, IsHandler as IsNumberedHandler, IsNumbered}
 use Rattle.arch_types.specs.Walk.{Known, and_then, deep, AllWalked, walked_all}
-use Rattle.arch_types.specs.Right.{AreOrdered, Told, RightAll}
+use Rattle.arch_types.proofs.Right.{AreOrdered, Told, RightAll}
 use Rattle.arch_types.specs.Turns.{in_turn, finished, bodied, known_in, handled}
 use Rattle.arch_types.proofs.Sequence.{first_left, first_right, clean_both, first_of_same}
 use Rattle.arch_types.proofs.Within.{list_begins, all_offends_inside}

@@ -18,14 +18,14 @@ use Rattle.arch_types.specs.declared.fault.TypeFault.{TypeFault}
 use Rattle.arch_types.specs.declared.fault.TypeFault.TheVariants as fault
 use Rattle.arch_types.specs.Wanted.{a_scalar, a_number, an_array, exactly, fulfils, same, misfit, wanted, wanted_one, unless}
 use Rattle.arch_types.specs.Offence.{Child, Test, Row, end, child, none_before, Node, IsFirst}
-use Rattle.arch_types.specs.Typing.{Env, Path, with_step, Becomes, BecomesPlace, type_of, field_of, has_field, wants, wants_field, wants_index, like_the_first, type_child}
+use Rattle.arch_types.specs.Typing.{Env, Path, with_step, Becomes, BecomesPlace, type_of, field_of, has_field, wants, wants_field, wants_index, like_the_first, wants_second, type_child}
 use Rattle.arch_types.specs.Body.{place_child, expr_child}
 use Rattle.arch_types.specs.Order.{AscendsPlace, Ascends}
 use Rattle.arch_types.specs.Walk.{Known, known_type, TypedExpr, TypedPlace, typed, typed_place, scalar_in, and_then, tested, literal, un_row, bin_row, choose_row, cast_row, get_row, index_row, field_found}
-use Rattle.arch_types.specs.Right.{env_with, Uses, UsesPlace, Right, RightPlace}
+use Rattle.arch_types.proofs.Right.{env_with, Uses, UsesPlace, Right, RightPlace}
 use Rattle.arch_types.proofs.Same.{same_true}
 use Rattle.arch_types.proofs.Nodes.{Ones, Spans, first_child, next_child, in_children, first_miss, next_miss, in_types, unless_none}
-use Rattle.arch_types.proofs.Typing.{applies_wanted, applies_wanted_one, get_children, index_children, un_children, bin_children, choose_children, cast_children, get_spans, index_spans, un_spans, bin_spans, choose_spans, cast_spans, type_one, one_place, one_expr, sound, sound_place}
+use Rattle.arch_types.proofs.Typing.{applies_wanted, applies_wanted_one, wanted_same, get_children, index_children, un_children, bin_children, choose_children, cast_children, get_spans, index_spans, un_spans, bin_spans, choose_spans, cast_spans, type_one, one_place, one_expr, sound, sound_place}
 
 pub scalar_wanted : (o : BinOp) (t : Ty) → fulfils (wanted o) t ≡ true → t ≡ scalar (scalar_in t)
 scalar_wanted op.Add (scalar s) h = refl
@@ -160,8 +160,9 @@ module _ (γ : Known) (has : Target → Ty → Type 0) where
 
     bin_tests : (x y : TypedExpr) → Becomes Γ a x.ty x.tree → Becomes Γ b y.ty y.tree → (m n : Option TypeFault) → misfit γ.names A (wanted op) x.ty ≡ m → misfit γ.names B (exactly x.ty) y.ty ≡ n
         → Right Γ (bin at op a b) (tested m (tested n (Ok (record { ty = scalar (binary_scalar op (scalar_in x.ty)); tree = tree.bin op (scalar_in x.ty) x.tree y.tree }))))
-    bin_tests x y h k (Some f) n i j = λ bound o. two_third (expr_child Γ a) (expr_child Γ b) (wants Γ A (wanted op)) (like_the_first Γ B) bound (s bound o) ones x.ty y.ty f (x.tree, h) (y.tree, k) i
-    bin_tests x y h k None (Some f) i j = λ bound o. two_fourth (expr_child Γ a) (expr_child Γ b) (wants Γ A (wanted op)) (like_the_first Γ B) bound (s bound o) ones x.ty y.ty f (x.tree, h) (y.tree, k) i j
+    bin_tests x y h k (Some f) n i j = λ bound o. two_third (expr_child Γ a) (expr_child Γ b) (wants Γ A (wanted op)) (wants_second Γ B op) bound (s bound o) ones x.ty y.ty f (x.tree, h) (y.tree, k) i
+    bin_tests x y h k None (Some f) i j = λ bound o. two_fourth (expr_child Γ a) (expr_child Γ b) (wants Γ A (wanted op)) (wants_second Γ B op) bound (s bound o) ones x.ty y.ty f (x.tree, h) (y.tree, k) i
+        (ap (λ w. misfit γ.names B w y.ty) (wanted_same op x.ty (unless_none (fulfils (wanted op) x.ty) _ i)) ∙ j)
     bin_tests x y h k None None i j =
         let u = unless_none (fulfils (wanted op) x.ty) _ i in let v = scalar_wanted op x.ty u in let w = same_true x.ty y.ty (unless_none (same x.ty y.ty) _ j) in (
           scalar_in x.ty,
@@ -175,8 +176,8 @@ module _ (γ : Known) (has : Target → Ty → Type 0) where
         )
 
     bin_right : (r q : Result TypedExpr TypeFault) → Right Γ a r → Right Γ b q → Right Γ (bin at op a b) (and_then r (λ x. and_then q (λ y. bin_row γ.names op A x B y)))
-    bin_right (Err f) q h k = λ bound o. two_first (expr_child Γ a) (expr_child Γ b) (wants Γ A (wanted op)) (like_the_first Γ B) bound (s bound o) ones f (h B o.1)
-    bin_right (Ok x) (Err f) h k = λ bound o. two_second (expr_child Γ a) (expr_child Γ b) (wants Γ A (wanted op)) (like_the_first Γ B) bound (s bound o) ones x.ty f (x.tree, h) (k bound o.2)
+    bin_right (Err f) q h k = λ bound o. two_first (expr_child Γ a) (expr_child Γ b) (wants Γ A (wanted op)) (wants_second Γ B op) bound (s bound o) ones f (h B o.1)
+    bin_right (Ok x) (Err f) h k = λ bound o. two_second (expr_child Γ a) (expr_child Γ b) (wants Γ A (wanted op)) (wants_second Γ B op) bound (s bound o) ones x.ty f (x.tree, h) (k bound o.2)
     bin_right (Ok x) (Ok y) h k = bin_tests x y h k (misfit γ.names A (wanted op) x.ty) (misfit γ.names B (exactly x.ty) y.ty) refl refl
 
   module _ (at : ℕ) (u : RawType Link) (a : RawExpr Link) (ones : Ones (cast_children Γ u a)) (s : (end : ℕ) → Ascends (cast at u a) end → Spans (cast_children Γ u a) end) where

@@ -8,6 +8,7 @@ pub mod SoundHandlers
 pub mod SoundShallow
 pub mod SoundOnce
 pub mod Sound
+pub mod Right
 pub mod Same
 pub mod Steps
 pub mod Fields
@@ -16,7 +17,6 @@ pub mod StmtWalk
 pub mod Nodes
 pub mod Typing
 pub mod First
-pub mod Law
 pub mod Sequence
 pub mod DeepRows
 pub mod Within

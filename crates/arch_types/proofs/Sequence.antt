@@ -6,7 +6,7 @@ use Rattle.arch_types.specs.declared.high.High.{High}
 use Rattle.arch_types.specs.Offence.{Faults, Child, offset, IsClean, IsFirst}
 use Rattle.arch_types.specs.Body.{told, IsDeep}
 use Rattle.arch_types.specs.Walk.{deep, earlier, first_high, too_high}
-use Rattle.arch_types.specs.Right.{Told}
+use Rattle.arch_types.proofs.Right.{Told}
 use Rattle.arch_types.proofs.StmtWalk.{earlier_none}
 
 pub earlier_some : (d : High) (f : TypeFault) → 0 < offset f → earlier (Some d) f ≡ deep d

@@ -11,11 +11,11 @@ use Rattle.arch_types.specs.declared.fault.TypeFault.{TypeFault}
 use Rattle.arch_types.specs.declared.fault.TypeFault.TheVariants as fault
 use Rattle.arch_types.specs.Offence.{Faults, IsClean, Child}
 use Rattle.arch_types.specs.Typing.{Env, Path, place_from, Becomes, BecomesPlace}
-use Rattle.arch_types.specs.Body.{emitter_number, message_of, expr_child, place_child, told, IsDeep, Breaks, BreaksAll, Deeps, DeepsAll, Offends, BecomesStmt, BecomesAll}
+use Rattle.arch_types.specs.Body.{emitter_number, message_of, expr_child, place_child, told, IsDeep, Breaks, BreaksAll, Deeps, DeepsAll, Offends, BecomesStmt, BecomesAll, greatest_height}
 use Rattle.arch_types.specs.Body as body
 use Rattle.arch_types.specs.Outline.{each, outline, Written, handlers_of, callback_of}
 use Rattle.arch_types.specs.File.{entry, AreBodies, AreHandlers, Offence}
-use Rattle.arch_types.specs.Shallow.{greatest_height, IsLow, AreLow}
+use Rattle.arch_types.specs.Shallow.{IsLow, AreLow}
 use Rattle.arch_types.specs.Laws.{ShallowLaw}
 use Rattle.arch_types.proofs.SoundHeights.{expr_high, whole_high}
 

@@ -15,7 +15,7 @@ use Rattle.arch_types.specs.Typing.{Env, Has, Becomes, BecomesPlace, place_from,
 use Rattle.arch_types.specs.Body.{with_loop, base, emitter_number, message_of, place_child, expr_child, if_writable, wants_writable, wants_writable_scalar, DeepsAll, height, place_height}
 use Rattle.arch_types.specs.Walk.{Known, TypedExpr, TypedPlace, and_then, tested, scalar_in, too_high, high_expr, high_place, deep, earlier, first_high, behind, Walked, AllWalked, with_binders, binding, plain, joined, walked, walked_all, typed, typed_place}
 use Rattle.arch_types.specs.Walk as walk
-use Rattle.arch_types.specs.Right.{env_with, Right, RightPlace, IsOrdered, AreOrdered, Knows, RightStmt, RightAll}
+use Rattle.arch_types.proofs.Right.{env_with, Right, RightPlace, IsOrdered, AreOrdered, Knows, RightStmt, RightAll}
 use Rattle.arch_types.proofs.Same.{same_true}
 use Rattle.arch_types.proofs.Nodes.{unless_none}
 use Rattle.arch_types.proofs.Typing.{one_expr}

@@ -14,7 +14,7 @@ use Rattle.arch_types.specs.Order.{start_in, AscendsAll}
 use Rattle.arch_types.specs.Numbered.{Counts, past, naming, bound_by, bound_by_all, after as seen_after, SeesStmt, SeesAll}
 use Rattle.tower_syntax.specs.Typed.{read_only}
 use Rattle.arch_types.specs.Walk.{Known, and_then, deep, earlier, first_high, Walked, AllWalked, with_binders, binding, joined, walked, walked_all, typed, typed_place}
-use Rattle.arch_types.specs.Right.{env_with, IsOrdered, AreOrdered, Told, Knows, Agrees, IsWithin, RightStmt, RightAll}
+use Rattle.arch_types.proofs.Right.{env_with, IsOrdered, AreOrdered, Told, Knows, Agrees, IsWithin, RightStmt, RightAll}
 use Rattle.arch_types.proofs.First.{right, right_place}
 use Rattle.arch_types.proofs.Sequence.{first_left, told_right, told_first, told_within, first_of_same, clean_both}
 use Rattle.arch_types.proofs.Within.{offends_inside, all_offends_inside}

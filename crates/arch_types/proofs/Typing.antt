@@ -1,5 +1,5 @@
 -- An expression or place has one type at most, and none where a fault is in it; its faults stand within it.
-use Rattle.std.proofs.Common.{◌≡◌, ℕ, ◌<◌, ◌≤◌, [], ◌∷◌, Option, Some, None, Bool, refl, ap, sym, ◌∙◌, arith, not}
+use Rattle.std.proofs.Common.{◌≡◌, ℕ, ◌<◌, ◌≤◌, [], ◌∷◌, Option, Some, None, Bool, true, refl, ap, sym, ◌∙◌, arith, not}
 use Rattle.std.proofs.lemmas.Option.{none-some, same_Some}
 use Rattle.std.proofs.lemmas.Bool.{false≢true}
 use Rattle.tower_types.specs.declared.scalar.Scalar.{Scalar}
@@ -14,13 +14,13 @@ use Rattle.tower_syntax.specs.declared.named.Target.{Target}
 use Rattle.tower_syntax.specs.RawTree.{Id, Link, RawType, RawPlace, root, get, index, RawExpr, truth, read, lit, un, bin, choose, cast}
 use Rattle.tower_syntax.specs.Offset.{link_offset, type_offset, place_offset, expr_offset}
 use Rattle.arch_types.specs.declared.fault.TypeFault.{TypeFault}
-use Rattle.arch_types.specs.Wanted.{Wanted, a_scalar, a_number, an_array, a_record, exactly, fulfils, same_scalar, wanted, wanted_one}
+use Rattle.arch_types.specs.Wanted.{Wanted, a_scalar, a_number, an_array, a_record, exactly, fulfils, same_scalar, wanted, wanted_second, wanted_one}
 use Rattle.arch_types.specs.Offence.{Child, Row, end, child, Node, offset}
-use Rattle.arch_types.specs.Typing.{Env, Has, HasPlace, PlaceFaults, ExprFaults, field_of, wants, wants_field, wants_index, like_the_first, has_field, type_child}
+use Rattle.arch_types.specs.Typing.{Env, Has, HasPlace, PlaceFaults, ExprFaults, field_of, wants, wants_field, wants_index, like_the_first, wants_second, has_field, type_child}
 use Rattle.arch_types.specs.Body.{place_child, expr_child}
 use Rattle.arch_types.specs.Order.{AscendsPlace, Ascends}
 use Rattle.arch_types.specs.Walk.{scalar_in}
-use Rattle.arch_types.proofs.Same.{same_refl}
+use Rattle.arch_types.proofs.Same.{same_refl, same_true}
 use Rattle.arch_types.proofs.Nodes.{Within, wider, IsOne, Ones, IsSound, Spans, node_within, node_clean, none_of_one, none_of_two, none_of_three, misfit_within, fits_none}
 
 pub truth_only : (s : Scalar) → same_scalar is.Bool s ≡ not (is_number s)
@@ -55,6 +55,22 @@ pub applies_wanted_one : (o : UnOp) (s : Scalar) → fulfils (wanted_one o) (sca
 applies_wanted_one un_op.Not s = truth_only s
 applies_wanted_one un_op.Neg s = refl
 
+-- where the first operand is as it is wanted, the second is to have its type
+pub wanted_same : (o : BinOp) (t : Ty) → fulfils (wanted o) t ≡ true → wanted_second o t ≡ exactly t
+wanted_same op.Add t h = refl
+wanted_same op.Sub t h = refl
+wanted_same op.Mul t h = refl
+wanted_same op.Div t h = refl
+wanted_same op.Rem t h = refl
+wanted_same op.And t h = refl
+wanted_same op.Or t h = refl
+wanted_same op.Xor t h = refl
+wanted_same op.Eq t h = refl
+wanted_same op.Less t h = refl
+wanted_same op.LessEq t h = refl
+wanted_same op.Both t h = ap exactly (same_true (scalar is.Bool) t h)
+wanted_same op.Either t h = ap exactly (same_true (scalar is.Bool) t h)
+
 pub sooner : (c : Child) (a b : ℕ) → IsSound c a → a ≤ b → IsSound c b
 sooner c a b s l = let x = s.begins in record {
   begins = omega arith;
@@ -75,6 +91,9 @@ module _ (Γ : Env) where
 
   pub like_in : (at bound : ℕ) → at < bound → (before t : Ty) (f : TypeFault) → like_the_first Γ at before t ≡ Some f → Within at bound f
   like_in at bound l before t f h = misfit_within Γ.names at bound (exactly before) t f l h
+
+  pub second_in : (at bound : ℕ) (o : BinOp) → at < bound → (before t : Ty) (f : TypeFault) → wants_second Γ at o before t ≡ Some f → Within at bound f
+  second_in at bound o l before t f h = misfit_within Γ.names at bound (wanted_second o before) t f l h
 
   has_field_at : (found : Option (ℕ × Ty)) (at : ℕ) (f : TypeFault) → has_field found at ≡ Some f → offset f ≡ at
   has_field_at None at f h = ap offset (sym (same_Some _ _ h))
@@ -101,7 +120,7 @@ module _ (Γ : Env) where
   un_children o a = child (expr_child Γ a) (wants Γ (expr_offset link_offset a) (wanted_one o)) end
 
   abbrev pub bin_children : BinOp → RawExpr Link → RawExpr Link → Row
-  bin_children o a b = child (expr_child Γ a) (wants Γ (expr_offset link_offset a) (wanted o)) (child (expr_child Γ b) (like_the_first Γ (expr_offset link_offset b)) end)
+  bin_children o a b = child (expr_child Γ a) (wants Γ (expr_offset link_offset a) (wanted o)) (child (expr_child Γ b) (wants_second Γ (expr_offset link_offset b) o) end)
 
   abbrev pub choose_children : RawExpr Link → RawExpr Link → RawExpr Link → Row
   choose_children c a b = child (expr_child Γ c) (wants Γ (expr_offset link_offset c) (exactly (scalar is.Bool))) (child (expr_child Γ a) (wants Γ (expr_offset link_offset a) a_scalar) (child (expr_child Γ b) (like_the_first Γ (expr_offset link_offset b)) end))
@@ -127,7 +146,7 @@ module _ (Γ : Env) where
   un_spans o a bound s = (s, wants_in _ bound (wanted_one o) s.begins, tt {0})
 
   pub bin_spans : (o : BinOp) (a b : RawExpr Link) (bound : ℕ) → IsSound (expr_child Γ a) (expr_offset link_offset b) → IsSound (expr_child Γ b) bound → Spans (bin_children o a b) bound
-  bin_spans o a b bound s r = (s, wants_in _ _ (wanted o) s.begins, (r, like_in _ bound r.begins, tt {0}))
+  bin_spans o a b bound s r = (s, wants_in _ _ (wanted o) s.begins, (r, second_in _ bound o r.begins, tt {0}))
 
   pub choose_spans : (c a b : RawExpr Link) (bound : ℕ) → IsSound (expr_child Γ c) (expr_offset link_offset a) → IsSound (expr_child Γ a) (expr_offset link_offset b) → IsSound (expr_child Γ b) bound → Spans (choose_children c a b) bound
   choose_spans c a b bound q s r = (q, wants_in _ _ (exactly (scalar is.Bool)) q.begins, (s, wants_in _ _ a_scalar s.begins, (r, like_in _ bound r.begins, tt {0})))
@@ -157,9 +176,10 @@ module _ (Γ : Env) where
   bin_clean : (at : ℕ) (o : BinOp) (a b : RawExpr Link) → Ones (bin_children o a b) → (t : Ty) (f : TypeFault) → Has Γ (bin at o a b) t → Node (bin_children o a b) f → ⊥
   bin_clean at o a b s t f (x, (r, y, z, h, k, i, e, d)) n =
       node_clean (bin_children o a b) (scalar r ∷ scalar r ∷ []) s ((y, h), ((z, k), tt {0}))
-      (none_of_two (expr_child Γ a) (expr_child Γ b) (wants Γ (expr_offset link_offset a) (wanted o)) (like_the_first Γ (expr_offset link_offset b)) (scalar r) (scalar r)
+      (none_of_two (expr_child Γ a) (expr_child Γ b) (wants Γ (expr_offset link_offset a) (wanted o)) (wants_second Γ (expr_offset link_offset b) o) (scalar r) (scalar r)
       (fits_none Γ.names (expr_offset link_offset a) (wanted o) (scalar r) (applies_wanted o r ∙ i))
-      (fits_none Γ.names (expr_offset link_offset b) (exactly (scalar r)) (scalar r) (same_refl (scalar r)))) f n
+      (fits_none Γ.names (expr_offset link_offset b) (wanted_second o (scalar r)) (scalar r)
+      (ap (λ w. fulfils w (scalar r)) (wanted_same o (scalar r) (applies_wanted o r ∙ i)) ∙ same_refl (scalar r)))) f n
 
   choose_clean : (at : ℕ) (c a b : RawExpr Link) → Ones (choose_children c a b) → (t : Ty) (f : TypeFault) → Has Γ (choose at c a b) t → Node (choose_children c a b) f → ⊥
   choose_clean at c a b s t f (x, (r, w, y, z, g, h, k, e, d)) n =

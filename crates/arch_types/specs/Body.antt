@@ -13,7 +13,7 @@ use Rattle.arch_types.specs.declared.fault.TypeFault.{TypeFault}
 use Rattle.arch_types.specs.declared.fault.TypeFault.TheVariants as fault
 use Rattle.arch_types.specs.Wanted.{a_scalar, exactly, fulfils, misfit}
 use Rattle.arch_types.specs.Offence.{Faults, IsClean, offset, Child, Test, end, child, Node}
-use Rattle.arch_types.specs.Typing.{Env, type_of, Path, place_from, BecomesPlace, Becomes, Has, HasPlace, wants, like_the_first, PlaceFaults, ExprFaults}
+use Rattle.arch_types.specs.Typing.{Env, type_of, no_type, Path, place_from, BecomesPlace, Becomes, Has, HasPlace, wants, like_the_first, PlaceFaults, ExprFaults}
 
 -- ---- the names after a statement
 
@@ -70,7 +70,7 @@ emitter_number (target.Emitter k) = k
 emitter_number _ = 0
 
 abbrev pub message_of : Env → ℕ → Ty
-message_of Γ k = slice_index_or Γ.emitters k (scalar is.Bool)
+message_of Γ k = slice_index_or Γ.emitters k no_type
 
 abbrev mutual
   pub BecomesStmt : Env → RawStmt Link → Fields → Stmt → Type 0
@@ -160,9 +160,13 @@ abbrev mutual
 abbrev pub told : ℕ → ℕ
 told h = min (2 ^ 32 - 1) h
 
--- an outermost expression or place of a statement is too high, and no other fault is in it or at it
+-- how high an outermost expression or place of a statement may be
+abbrev pub greatest_height : ℕ
+greatest_height = 24
+
+-- one that is too high, where no other fault is in it or at it
 abbrev pub IsDeep : Child → ℕ → Faults → Faults
-IsDeep c h breaks f = (24 < h) × IsClean c.faults × ((g : TypeFault) → breaks g → offset g ≡ c.at → ⊥) × (f ≡ fault.Deep c.at (told h))
+IsDeep c h breaks f = (greatest_height < h) × IsClean c.faults × ((g : TypeFault) → breaks g → offset g ≡ c.at → ⊥) × (f ≡ fault.Deep c.at (told h))
 
 abbrev mutual
   pub Deeps : Env → RawStmt Link → Faults

@@ -1,8 +1,7 @@
 -- A whole file: what it becomes, its faults, and the order of its text.
 use Rattle.std.specs.Prelude.{◌≡◌, ℕ, ◌<◌, List, [], ◌∷◌, map, slice_get, slice_index_or, Bool, true, false, Some, Contains}
 use Rattle.std.specs.Option.{option_map}
-use Rattle.tower_types.specs.declared.scalar.Scalar.TheVariants.{Bool as bool}
-use Rattle.tower_types.specs.Ty.{Ty, Fields, scalar}
+use Rattle.tower_types.specs.Ty.{Ty, Fields}
 use Rattle.tower_syntax.specs.declared.named.Target.{Target}
 use Rattle.tower_syntax.specs.declared.named.Target.TheVariants as target
 use Rattle.tower_syntax.specs.declared.arch.On.{On}
@@ -11,16 +10,12 @@ use Rattle.tower_syntax.specs.RawTree.{Id, Link, Raw, RawStmts}
 use Rattle.tower_syntax.specs.Arch.{Arch, Emitter, Body, Handler}
 use Rattle.tower_syntax.specs.Weights.{states_of}
 use Rattle.arch_types.specs.declared.fault.TypeFault.{TypeFault}
-use Rattle.arch_types.specs.Typing.{Env}
+use Rattle.arch_types.specs.Typing.{Env, no_type}
 use Rattle.arch_types.specs.Body as body
 use Rattle.arch_types.specs.Order.{AscendsAll, start_in}
 use Rattle.arch_types.specs.Outline.{each, outline, with_handlers, Written, handlers_of, on_of, emitter_of, callback_of}
 
 -- ---- what a callback sees at its beginning
-
--- a type that stands where none is known
-abbrev pub no_type : Ty
-no_type = scalar bool
 
 abbrev pub message_on : Arch → On → Ty
 message_on arch (on.Source s) = slice_index_or (map (λ x. x.message) arch.sources) s no_type

@@ -9,7 +9,6 @@ pub mod Outline
 pub mod File
 pub mod Numbered
 pub mod Turns
-pub mod Right
 pub mod Worked
 pub mod WorkedTable
 pub mod WorkedNumbers

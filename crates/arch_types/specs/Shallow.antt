@@ -1,11 +1,9 @@
 -- No expression or place of a system is high: what its instructions have on the operand stack at once is bounded.
-use Rattle.std.specs.Prelude.{ℕ, ◌≤◌, All}
+use Rattle.std.specs.Prelude.{◌≤◌, All}
 use Rattle.tower_syntax.specs.Tree.{Stmt, bind, local, set, copy, branch, loop, emit, Stmts, no_stmts, stmt}
 use Rattle.tower_syntax.specs.Arch.{Arch}
 use Rattle.tower_syntax.specs.WellNumbered.{height, place_height}
-
-abbrev pub greatest_height : ℕ
-greatest_height = 24
+use Rattle.arch_types.specs.Body.{greatest_height}
 
 -- each outermost expression and place of a statement is at most so high
 abbrev mutual

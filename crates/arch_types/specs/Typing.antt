@@ -3,6 +3,7 @@ use Rattle.std.specs.Prelude.{◌≡◌, ℕ, suc, List, [], ◌∷◌, ◌++◌
 use Rattle.std.specs.Option.{option_map}
 use Rattle.tower_types.specs.declared.scalar.Scalar.{Scalar}
 use Rattle.tower_types.specs.declared.scalar.Scalar.TheVariants as is
+use Rattle.tower_types.specs.declared.scalar.BinOp.{BinOp}
 use Rattle.tower_types.specs.Ty.{Ty, Name, Fields, Records, scalar, array, rec as record_type}
 use Rattle.tower_types.specs.Value.{fits_scalar}
 use Rattle.tower_types.specs.Arithmetic.{applies, applies_one, binary_scalar, is_number, truth as truth_number}
@@ -17,7 +18,7 @@ use Rattle.tower_syntax.specs.Tree.{Expr, Place, Steps}
 use Rattle.tower_syntax.specs.Tree as tree
 use Rattle.arch_types.specs.declared.fault.TypeFault.{TypeFault}
 use Rattle.arch_types.specs.declared.fault.TypeFault.TheVariants as fault
-use Rattle.arch_types.specs.Wanted.{Wanted, a_scalar, a_number, an_array, a_record, exactly, wanted, wanted_one, misfit}
+use Rattle.arch_types.specs.Wanted.{Wanted, a_scalar, a_number, an_array, a_record, exactly, wanted, wanted_second, wanted_one, misfit}
 use Rattle.arch_types.specs.Offence.{Child, Test, end, child, Node, Faults}
 
 -- what a callback sees: the records with their names, the types of its names and its emitters' messages. A name may
@@ -41,6 +42,10 @@ abbrev pub type_of : RawType Link → Ty
 type_of (word at s) = scalar s
 type_of (rec u) = record_type (record_number u.target)
 type_of (array_form at n t) = array n (type_of t)
+
+-- the type that stands where none is known
+abbrev pub no_type : Ty
+no_type = scalar is.Bool
 
 -- the place of a field in its record, with its type
 abbrev pub one_later : Option (ℕ × Ty) → Option (ℕ × Ty)
@@ -111,14 +116,14 @@ HasPlace Γ p t = (q : Path) × BecomesPlace Γ p t q
 
 -- ---- what is asked of children
 
-abbrev pub alone : (Ty → Option TypeFault) → Test
-alone test before t = test t
-
 abbrev pub wants : Env → ℕ → Wanted → Test
 wants Γ at w before t = misfit Γ.names at w t
 
 abbrev pub like_the_first : Env → ℕ → Test
 like_the_first Γ at before t = misfit Γ.names at (exactly before) t
+
+abbrev pub wants_second : Env → ℕ → BinOp → Test
+wants_second Γ at op before t = misfit Γ.names at (wanted_second op before) t
 
 -- a record that has the field
 abbrev pub has_field : Option (ℕ × Ty) → ℕ → Option TypeFault
@@ -160,7 +165,7 @@ abbrev mutual
   ExprFaults Γ (bin at op a b) f =
       let first : Child = record { at = expr_offset link_offset a; faults = λ g. ExprFaults Γ a g; has = Has Γ a } in
       let second : Child = record { at = expr_offset link_offset b; faults = λ g. ExprFaults Γ b g; has = Has Γ b } in
-      Node (child first (wants Γ first.at (wanted op)) (child second (like_the_first Γ second.at) end)) f
+      Node (child first (wants Γ first.at (wanted op)) (child second (wants_second Γ second.at op) end)) f
   ExprFaults Γ (choose at c a b) f =
       let first : Child = record { at = expr_offset link_offset c; faults = λ g. ExprFaults Γ c g; has = Has Γ c } in
       let second : Child = record { at = expr_offset link_offset a; faults = λ g. ExprFaults Γ a g; has = Has Γ a } in

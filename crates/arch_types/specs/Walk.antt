@@ -18,8 +18,8 @@ use Rattle.arch_types.specs.declared.fault.TypeFault.{TypeFault}
 use Rattle.arch_types.specs.declared.fault.TypeFault.TheVariants as fault
 use Rattle.arch_types.specs.declared.high.High.{High}
 use Rattle.arch_types.specs.Wanted.{a_scalar, a_number, an_array, a_record, exactly, wanted, wanted_one, unless, misfit}
-use Rattle.arch_types.specs.Typing.{type_of, field_of, root_at, Path, with_step, place_from}
-use Rattle.arch_types.specs.Body.{base, emitter_number, height, place_height, told, if_writable}
+use Rattle.arch_types.specs.Typing.{type_of, no_type, field_of, root_at, Path, with_step, place_from}
+use Rattle.arch_types.specs.Body.{base, emitter_number, height, place_height, told, greatest_height, if_writable}
 
 -- what a callback sees, where each name has its type
 pub record Known : Type 0 where
@@ -30,9 +30,6 @@ pub record Known : Type 0 where
   pub emitters : List Ty
   pub binders : Fields
   pub writable : List Bool
-
-abbrev pub no_type : Ty
-no_type = scalar is.Bool
 
 abbrev pub type_at : Fields → ℕ → Ty
 type_at fields k = (slice_index_or fields k ([], no_type)).1
@@ -155,7 +152,7 @@ abbrev mutual
 
 -- what is too high
 abbrev pub too_high : ℕ → ℕ → Option High
-too_high at depth = if nat_lt 24 depth then Some (record { at = at; depth = depth }) else None
+too_high at depth = if nat_lt greatest_height depth then Some (record { at = at; depth = depth }) else None
 
 abbrev pub high_expr : RawExpr Link → Option High
 high_expr e = too_high (expr_offset link_offset e) (told (height e))

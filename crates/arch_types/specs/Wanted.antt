@@ -71,7 +71,7 @@ shown names an_array = want.Array
 shown names a_record = want.Record
 shown names (exactly t) = want.Exactly (type_text names t)
 
--- what an operation wants of its first operand; a second one is to have exactly the type of the first
+-- what an operation wants of its first operand
 abbrev pub wanted : BinOp → Wanted
 wanted op.And = an_unsigned
 wanted op.Or = an_unsigned
@@ -81,6 +81,13 @@ wanted op.Both = exactly (scalar is.Bool)
 wanted op.Either = exactly (scalar is.Bool)
 wanted o = a_number
 
+-- of the second, where the first has this type
+abbrev pub wanted_second : BinOp → Ty → Wanted
+wanted_second op.Both before = exactly (scalar is.Bool)
+wanted_second op.Either before = exactly (scalar is.Bool)
+wanted_second o before = exactly before
+
+-- of the only one
 abbrev pub wanted_one : UnOp → Wanted
 wanted_one un.Not = exactly (scalar is.Bool)
 wanted_one un.Neg = a_number

@@ -18,15 +18,8 @@ mod text;
 mod wanted;
 
 pub use check::check_types;
-pub use exprs::{check_expr, check_place};
 pub use fault::{TypeFault, Want};
-pub use heights::{height, place_height};
-pub use high::High;
 pub use laws::{
-    checked_law, scalars_law, shallow_law, trees_are_determined, type_expr, worked_file,
-    worked_numbers, worked_table, worked_types,
+    checked_law, scalars_law, shallow_law, trees_are_determined, worked_file, worked_numbers,
+    worked_table, worked_types,
 };
-pub use rows::{TypedExpr, TypedPlace};
-pub use scope::{Bound, Scope};
-pub use stmts::{AllChecked, Checked, check_stmts};
-pub use text::type_text;

@@ -3,10 +3,10 @@ ghost use Rattle.std.specs.Prelude.{◌≡◌, map, slice_index_or, IfOk};
 ghost use Rattle.tower_types.specs.View.{ty_of, fields_of};
 ghost use Rattle.tower_syntax.specs.NamedView.{named_type_of, named_place_of};
 ghost use Rattle.tower_syntax.specs.View.{arch_of, emitter_of};
-ghost use Rattle.arch_types.specs.Typing.{type_of, root_at};
+ghost use Rattle.arch_types.specs.Typing.{type_of, no_type, root_at};
 ghost use Rattle.arch_types.specs.Body.{base};
 ghost use Rattle.arch_types.specs.File.{message_on, messages};
-ghost use Rattle.arch_types.specs.Walk.{no_type, type_at, known_type, may_write_among};
+ghost use Rattle.arch_types.specs.Walk.{type_at, known_type, may_write_among};
 ghost use Rattle.arch_types.specs.Seen.{known, states_in};
 
 use sqlite_items::Items;

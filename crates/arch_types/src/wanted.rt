@@ -21,7 +21,7 @@ pub enum Asked {
     Record,
 }
 
-/// What an operation asks of its first operand. A second one is to have the type of the first.
+/// What an operation asks of its first operand. Where that is so, a second one is to have the type of the first.
 pub fn operand(op: BinOp) -> Asked
     ensures { view result ≡ wanted op }
 {

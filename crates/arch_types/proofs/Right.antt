@@ -1,5 +1,5 @@
 -- What the walk over expressions, places and statements is to give, where each name that there is has its type.
-use Rattle.std.specs.Prelude.{◌≡◌, ◌⊎◌, ◌<◌, ◌≤◌, ◌++◌, ℕ, List, length, Bool, Option, Some, None, Result, Ok, Err}
+use Rattle.std.proofs.Common.{◌≡◌, ◌⊎◌, ◌<◌, ◌≤◌, ◌++◌, ℕ, List, length, Bool, Option, Some, None, Result, Ok, Err}
 use Rattle.tower_types.specs.Ty.{Ty, Fields}
 use Rattle.tower_syntax.specs.declared.named.Target.{Target}
 use Rattle.tower_syntax.specs.declared.named.Target.TheVariants as target
@@ -21,9 +21,6 @@ IsKnown γ (target.Binder b) = b < length γ.binders
 IsKnown γ (target.State k) = k < length γ.states
 IsKnown γ x = ⊥
 
-abbrev pub has_known : Known → Target → Ty → Type 0
-has_known γ x t = IsKnown γ x × (t ≡ known_type γ x)
-
 abbrev pub env_with : Known → (Target → Ty → Type 0) → Env
 env_with γ has = record {
   names = γ.names;
@@ -33,9 +30,6 @@ env_with γ has = record {
   writable = may_write_among γ.writable;
   bound = length γ.binders;
 }
-
-abbrev pub env_of : Known → Env
-env_of γ = env_with γ (has_known γ)
 
 -- each name in it passes
 abbrev mutual
