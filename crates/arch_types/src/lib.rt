@@ -12,8 +12,6 @@ mod outline;
 mod rows;
 mod scope;
 mod stmts;
-#[cfg(test)]
-mod tests;
 mod text;
 mod wanted;
 
