@@ -26,8 +26,8 @@ text = record {
   version = 1;
   name = id 1;
   items = channel 2 (id 3) (word 4 U8)
-    ∷ monitor 5 (id 6) (state 7 (id 8) pairs ∷ handler 9 (id 10) (record { at = 11; target = target.Channel 0 }) (callback 12 (id 13) body ∷ []) ∷ [])
-    ∷ [];
+      ∷ monitor 5 (id 6) (state 7 (id 8) pairs ∷ handler 9 (id 10) (record { at = 11; target = target.Channel 0 }) (callback 12 (id 13) body ∷ []) ∷ [])
+      ∷ [];
 }
 
 abbrev pub WorkedSizes : Type 0

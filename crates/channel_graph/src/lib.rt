@@ -34,4 +34,3 @@ pub use listening::subscribers;
 pub use longest::chain;
 pub use reach::reached;
 pub use size::memory;
-

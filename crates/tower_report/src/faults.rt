@@ -100,13 +100,7 @@ fn put_found<'a, E: Sink>(
     put_line(err, &[b"refused:", name, place, want, found])
 }
 
-fn put_bound<E: Sink>(
-    err: &mut E,
-    handler: &Name,
-    emitter: &Name,
-    most: u64,
-    bound: u64,
-) -> Written
+fn put_bound<E: Sink>(err: &mut E, handler: &Name, emitter: &Name, most: u64, bound: u64) -> Written
     ensures { Puts E.written E.faults err.old err.new (line (codes "refused:" ∷ codes "bound" ∷ handler.now ∷ emitter.now ∷ decimal most ∷ decimal bound ∷ [])) (answer_of result) }
 {
     let mut most_buffer = Buffer::new();

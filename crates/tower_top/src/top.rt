@@ -105,8 +105,9 @@ fn run<F: Shelf, O: Sink, E: Sink>(
         Input::Unread => return after(put_unread(err, shelf.blamed()), Status::ReadFault),
         Input::NoMemory => return Status::NoMemory,
     };
-    let Some(small) = small else {
-        return after(err.put(b"refused: notyet 0\n"), Status::Refused);
+    let small = match small {
+        Some(small) => small,
+        None => return after(err.put(b"refused: notyet 0\n"), Status::Refused),
     };
     let ticks = match read_ticks(alloc, shelf, record_name) {
         Input::Valid(ticks) => ticks,

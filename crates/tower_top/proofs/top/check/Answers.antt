@@ -1,11 +1,11 @@
-use Rattle.std.proofs.Common.{◌≡◌, inl, sym, subst, []}
+use Rattle.std.proofs.Common.{◌≡◌, ◌∙◌, inl, sym, subst, []}
 use Rattle.tower_io.proofs.Adding.{Adds_none}
 use Rattle.tower_report.specs.CheckText.{check_text}
 use Rattle.tower_report.specs.FaultText.{fault_line}
 use Rattle.tower_report.specs.Puts.{Puts}
 use Rattle.tower_top.specs.declared.status.Status.TheVariants as status
 use Rattle.tower_top.specs.Answers.{IsUnread, refused, checks, file_unread, unread_line}
-use Rattle.tower_top.proofs.TopFacts.{line_ends, text_ends, unread_ends}
+use Rattle.tower_top.proofs.TopFacts.{grown, line_ends, text_ends, unread_ends}
 use Rattle.tower_top.proofs.top.check.Goals as goal
 
 pub returns-in-Valid-clause-ends : goal.returns-in-Valid-clause-ends
@@ -22,6 +22,9 @@ returns-in-Valid-clause-ends g c = λ words asks.
     status.Done (λ a. a) c.put_check.result (check_text c.in-Valid.file.checked)
     (checks c.args.file.now v.0 c.in-Valid.file.checked asks v.1 v.2.accepted)
     e.all e.part e.rose (Adds_none (g.E.Sink.written c.args.err.now)) c.in-Valid.ensures.calm)
+
+pub returns-in-Valid-clause-out_grew : goal.returns-in-Valid-clause-out_grew
+returns-in-Valid-clause-out_grew g c = λ grew. c.after.ensures ∙ grown c.put_check.result status.Done c.put_check.ensures grew
 
 pub returns-in-Wrong-clause-ends : goal.returns-in-Wrong-clause-ends
 returns-in-Wrong-clause-ends g c = λ words asks.
