@@ -12,9 +12,9 @@ use tower_syntax::{Listener, On};
 const CLOCK: &str =
     "(tower clock (period beat 10 5)\n (monitor count (state n u32)\n  (handler tick beat (callback t (set n (+ n (u32 1)))))))\n";
 
-/// The same with a number of another type, which is no small file.
-const NARROW: &str =
-    "(tower clock (period beat 10 5)\n (monitor count (state n u32)\n  (handler tick beat (callback t (set n (+ n (u8 1)))))))\n";
+/// The same counting down, which is no small file.
+const DOWN: &str =
+    "(tower clock (period beat 10 5)\n (monitor count (state n u32)\n  (handler tick beat (callback t (set n (- n (u32 1)))))))\n";
 
 /// The text of `clock` over 25 ticks: a message at every tenth, and twelve instructions for each.
 const TEXT: &str =
@@ -39,7 +39,7 @@ fn shelf(alloc: Global, fails: &[u64]) -> Result<MemShelf, AllocError> {
     let mut files = Vec::new(alloc);
     for (name, text) in [
         ("clock", CLOCK),
-        ("narrow", NARROW),
+        ("down", DOWN),
         ("open", "(tower a"),
         ("ticks", "tick 25"),
         ("none", "tick 0"),
@@ -69,7 +69,7 @@ fn answers_by_name(rt: HostRuntime) -> Result<(), Fail> {
     for (line, status, on_out, on_err) in [
         ("towerc run clock --record ticks", Status::Done, TEXT, ""),
         (
-            "towerc run narrow --record ticks",
+            "towerc run down --record ticks",
             Status::Refused,
             "",
             "refused: notyet 0\n",
@@ -143,7 +143,7 @@ fn answers_by_name(rt: HostRuntime) -> Result<(), Fail> {
 }
 
 /// Each file with what `check` tells of it, on `out` or on `err`.
-const CHECKS: [(&str, &str, &str); 9] = [
+const CHECKS: [(&str, &str, &str); 11] = [
     (FLIGHT, FLIGHT_CHECK, ""),
     (
         "(tower none)",
@@ -182,6 +182,16 @@ const CHECKS: [(&str, &str, &str); 9] = [
         "refused: mismatch 82 u16 u8\n",
     ),
     ("(tower a))", "", "refused: unopened 9\n"),
+    (
+        "(tower t (period p 10 1) (monitor m (state n u32) (handler h p (callback t (for i 65536 (for j 65536 (set n n)))))))",
+        "",
+        "refused: work p 154620920016\n",
+    ),
+    (
+        "(tower t (record r (field a (array 4096 u8)) (field b u8)))",
+        "",
+        "refused: size words 4097 4096\n",
+    ),
 ];
 
 /// A shelf with one file, of which each piece has at most so many bytes.
@@ -282,7 +292,7 @@ fn each_put_fails_in_turn(rt: HostRuntime) -> Result<(), Fail> {
             6,
         ),
         (
-            "towerc run narrow --record ticks",
+            "towerc run down --record ticks",
             "",
             "refused: notyet 0\n",
             6,
