@@ -2,12 +2,9 @@
 ghost use Rattle.std.specs.Prelude.{◌≤◌};
 
 use crate::{Status, tower};
-use arch_checks::check;
-use channel_graph::{reached, subscribers};
 use std::alloc::{AllocError, Global};
 use std::test::Fail;
 use tower_io::{MemShelf, MemSink};
-use tower_syntax::{Listener, On};
 
 const CLOCK: &str =
     "(tower clock (period beat 10 5)\n (monitor count (state n u32)\n  (handler tick beat (callback t (set n (+ n (u32 1)))))))\n";
@@ -232,21 +229,6 @@ fn checks_in_pieces(rt: HostRuntime) -> Result<(), Fail> {
             assert_eq!(rt; out.bytes(), on_out.as_bytes(), "{text}");
             assert_eq!(rt; err.bytes(), on_err.as_bytes(), "{text}");
         }
-    }
-    Ok(())
-}
-
-// What no command shows: what a source reaches, and who hears a channel.
-#[test]
-fn follows_links(rt: HostRuntime) -> Result<(), Fail> {
-    let alloc = rt.alloc();
-    let checked = check(alloc, FLIGHT.as_bytes());
-    assert!(rt; checked.is_ok());
-    if let Ok(checked) = checked {
-        let arch = checked.arch();
-        assert_eq!(rt; reached(alloc, arch, 2)?.as_slice(), [4, 6].as_slice());
-        let heard = subscribers(alloc, arch, On::Channel(2))?;
-        assert_eq!(rt; heard.as_slice(), [Listener::Output(0)].as_slice());
     }
     Ok(())
 }
