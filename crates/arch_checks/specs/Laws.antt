@@ -33,7 +33,7 @@ pub record IsSafe (arch : Arch) : Type 0 where
 abbrev pub AcceptedFilesAreSafe : Type 0
 AcceptedFilesAreSafe = (bs : List ℕ) (arch : Arch) → IsAccepted bs arch → IsSafe arch
 
--- a text is accepted as one system, or has one fault, and not both
+-- a text is accepted as at most one system, has at most one fault, and not both
 abbrev pub OneSystem : Type 0
 OneSystem = (bs : List ℕ) (a b : Arch) → IsAccepted bs a → IsAccepted bs b → a ≡ b
 

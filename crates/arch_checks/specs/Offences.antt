@@ -76,7 +76,7 @@ place k m n = record { kind = k; at = m; «then» = n }
 abbrev pub Precedes : Place → Place → Type 0
 Precedes p q = (p.kind < q.kind) ⊎ ((p.kind ≡ q.kind) × ((p.at < q.at) ⊎ ((p.at ≡ q.at) × (p.then < q.then))))
 
--- The kinds in their order. Those of the reading come first: the length, the tokens, forms, numbers and lengths of names.
+-- The kinds in their order. Those of the reading come first, 0 to 6: the length, the tokens, forms, numbers and lengths of names.
 abbrev pub names_kind : ℕ
 names_kind = 7
 

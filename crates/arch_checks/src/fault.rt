@@ -5,7 +5,6 @@ ghost use Rattle.arch_checks.specs.Faults.{of_read, of_name, of_type};
 use arch_names::{NameFault, Sort};
 use arch_types::{TypeFault, Want};
 use sqlite_items::Items;
-use std::alloc::AllocError;
 use tower_reader::ReadFault;
 use tower_types::{Name, NoMemory, Text};
 
@@ -28,7 +27,7 @@ pub enum What {
     Code,
 }
 
-/// The first fault of a file, or want of memory. `at` is the offset of the byte, list or name at fault, in bytes from the
+/// The first fault of a file, or want of memory. `at` is the offset of the byte or node at fault, in bytes from the
 /// start of the text. A count is 2^64 - 1 where it is greater.
 #[derive(Debug, Drop)]
 pub enum Fault {
@@ -193,17 +192,6 @@ impl From<NoMemory> for Fault {
     ghost from_gives = { λ _ e. e ≡ fault.NoMemory };
 
     fn from(_: NoMemory) -> Fault {
-        Fault::NoMemory
-    }
-}
-
-impl From<AllocError> for Fault {
-    ghost use Rattle.std.specs.Prelude.{◌≡◌};
-    ghost use Rattle.arch_checks.specs.declared.fault.Fault.TheVariants as fault;
-
-    ghost from_gives = { λ _ e. e ≡ fault.NoMemory };
-
-    fn from(_: AllocError) -> Fault {
         Fault::NoMemory
     }
 }

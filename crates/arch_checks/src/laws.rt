@@ -8,7 +8,7 @@ pub fn accepted_files_are_safe()
     ensures { AcceptedFilesAreSafe }
 {}
 
-/// A text is accepted as one system, or has one fault, and never both.
+/// A text is accepted as at most one system, has at most one fault, and never both.
 pub fn one_verdict()
     ensures system { OneSystem }
     ensures fault { OneFault }

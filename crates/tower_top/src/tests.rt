@@ -2,9 +2,13 @@
 ghost use Rattle.std.specs.Prelude.{◌≤◌};
 
 use crate::{Status, tower};
+use arch_checks::check;
+use channel_graph::{reached, subscribers};
 use std::alloc::{AllocError, Global};
 use std::test::Fail;
 use tower_io::{MemShelf, MemSink};
+use tower_syntax::{Arch, Listener, On};
+use tower_types::NoMemory;
 
 const CLOCK: &str =
     "(tower clock (period beat 10 5)\n (monitor count (state n u32)\n  (handler tick beat (callback t (set n (+ n (u32 1)))))))\n";
@@ -60,69 +64,72 @@ fn words(alloc: Global, line: &str) -> Result<Vec<String>, AllocError> {
     Ok(words)
 }
 
+/// Each line of words with its status and what it writes on `out` and on `err`.
+const ANSWERS: [(&str, Status, &str, &str); 18] = [
+    ("towerc run clock --record ticks", Status::Done, TEXT, ""),
+    (
+        "towerc run down --record ticks",
+        Status::Refused,
+        "",
+        "refused: notyet 0\n",
+    ),
+    (
+        "towerc run open --record absent",
+        Status::Refused,
+        "",
+        "refused: unclosed 0\n",
+    ),
+    (
+        "towerc run clock --record none",
+        Status::BadInput,
+        "",
+        "bad record 1 line\n",
+    ),
+    (
+        "towerc run absent --record ticks",
+        Status::ReadFault,
+        "",
+        "cannot read absent\n",
+    ),
+    (
+        "towerc run clock --record absent",
+        Status::ReadFault,
+        "",
+        "cannot read absent\n",
+    ),
+    ("", Status::Usage, "", USAGE),
+    ("towerc", Status::Usage, "", USAGE),
+    ("towerc run clock", Status::Usage, "", USAGE),
+    ("towerc run clock --record", Status::Usage, "", USAGE),
+    ("towerc run clock --records ticks", Status::Usage, "", USAGE),
+    ("towerc check clock", Status::Done, CLOCK_CHECK, ""),
+    (
+        "towerc check open",
+        Status::Refused,
+        "",
+        "refused: unclosed 0\n",
+    ),
+    (
+        "towerc check absent",
+        Status::ReadFault,
+        "",
+        "cannot read absent\n",
+    ),
+    ("towerc check", Status::Usage, "", USAGE),
+    ("towerc check clock --steps 5", Status::Usage, "", USAGE),
+    ("towerc walk clock --record ticks", Status::Usage, "", USAGE),
+    (
+        "towerc run clock --record ticks more",
+        Status::Usage,
+        "",
+        USAGE,
+    ),
+];
+
 #[test]
 fn answers_by_name(rt: HostRuntime) -> Result<(), Fail> {
     let alloc = rt.alloc();
-    for (line, status, on_out, on_err) in [
-        ("towerc run clock --record ticks", Status::Done, TEXT, ""),
-        (
-            "towerc run down --record ticks",
-            Status::Refused,
-            "",
-            "refused: notyet 0\n",
-        ),
-        (
-            "towerc run open --record absent",
-            Status::Refused,
-            "",
-            "refused: unclosed 0\n",
-        ),
-        (
-            "towerc run clock --record none",
-            Status::BadInput,
-            "",
-            "bad record 1 line\n",
-        ),
-        (
-            "towerc run absent --record ticks",
-            Status::ReadFault,
-            "",
-            "cannot read absent\n",
-        ),
-        (
-            "towerc run clock --record absent",
-            Status::ReadFault,
-            "",
-            "cannot read absent\n",
-        ),
-        ("", Status::Usage, "", USAGE),
-        ("towerc", Status::Usage, "", USAGE),
-        ("towerc run clock", Status::Usage, "", USAGE),
-        ("towerc run clock --record", Status::Usage, "", USAGE),
-        ("towerc run clock --records ticks", Status::Usage, "", USAGE),
-        ("towerc check clock", Status::Done, CLOCK_CHECK, ""),
-        (
-            "towerc check open",
-            Status::Refused,
-            "",
-            "refused: unclosed 0\n",
-        ),
-        (
-            "towerc check absent",
-            Status::ReadFault,
-            "",
-            "cannot read absent\n",
-        ),
-        ("towerc check", Status::Usage, "", USAGE),
-        ("towerc check clock --steps 5", Status::Usage, "", USAGE),
-        ("towerc walk clock --record ticks", Status::Usage, "", USAGE),
-        (
-            "towerc run clock --record ticks more",
-            Status::Usage,
-            "",
-            USAGE,
-        ),
-    ] {
+    for (line, status, on_out, on_err) in ANSWERS {
         let mut out = MemSink::new(alloc, 1000, Vec::new(alloc))?;
         let mut err = MemSink::new(alloc, 1000, Vec::new(alloc))?;
         let answer = tower(
@@ -230,6 +237,26 @@ fn checks_in_pieces(rt: HostRuntime) -> Result<(), Fail> {
             assert_eq!(rt; err.bytes(), on_err.as_bytes(), "{text}");
         }
     }
+    Ok(())
+}
+
+/// Whether `flight` has the links that it should: what its third source reaches, and who hears its third channel.
+fn has_links(alloc: Global, flight: &Arch) -> Result<bool, NoMemory> {
+    let handlers = reached(alloc, flight, 2)?;
+    let heard = subscribers(alloc, flight, On::Channel(2))?;
+    Ok(
+        handlers.as_slice() == [4, 6].as_slice()
+            && heard.as_slice() == [Listener::Output(0)].as_slice(),
+    )
+}
+
+// No command shows these.
+#[test]
+fn follows_links(rt: HostRuntime) -> Result<(), Fail> {
+    let alloc = rt.alloc();
+    let checked = check(alloc, FLIGHT.as_bytes())?;
+    let linked = has_links(alloc, checked.arch())?;
+    assert!(rt; linked);
     Ok(())
 }
 
