@@ -16,7 +16,7 @@ use Rattle.channel_graph.proofs.Acyclic.{shown_none}
 use Rattle.arch_checks.specs.declared.fault.What.{What}
 use Rattle.arch_checks.specs.Limits.{limit, work_limit}
 use Rattle.arch_checks.specs.Sizes.{Counts}
-use Rattle.arch_checks.specs.Offences.{Place, Precedes, types, bound, cycle, size, work, IsAccepted}
+use Rattle.arch_checks.specs.Offences.{Standing, Precedes, types, bound, cycle, size, work, IsAccepted}
 use Rattle.arch_checks.specs.Laws.{AcceptedFilesAreSafe, OneSystem, OneFault, NotBoth, TypesAreCounted, WrittenTypesCount}
 use Rattle.arch_checks.specs.declared.widths.Measure.TheVariants as measure
 use Rattle.arch_checks.proofs.TypesWritten.{same_greatest}
@@ -57,7 +57,7 @@ safe bs arch h =
 pub one_system : OneSystem
 one_system bs a b h k = system_once bs a b h.system k.system
 
-never_both : (p q : Place) → Precedes p q → Precedes q p → ⊥
+never_both : (p q : Standing) → Precedes p q → Precedes q p → ⊥
 never_both p q h k = grind (arith, h, k)
 
 pub one_fault : OneFault

@@ -33,3 +33,7 @@ order what.Words = 7
 order what.Chain = 8
 order what.Memory = 9
 order what.Code = 10
+
+-- how many limits there are
+abbrev pub limits : ℕ
+limits = 11

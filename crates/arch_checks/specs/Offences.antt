@@ -65,15 +65,15 @@ work_fault arch s = fault.Work (source_name arch s) (saturated (cost arch s))
 
 -- ---- where an offence stands among all: by its kind, then by its place among those of its kind
 
-pub record Place : Type 0 where
+pub record Standing : Type 0 where
   pub kind : ℕ
   pub at : ℕ
   pub then : ℕ
 
-abbrev pub place : ℕ → ℕ → ℕ → Place
-place k m n = record { kind = k; at = m; «then» = n }
+abbrev pub standing : ℕ → ℕ → ℕ → Standing
+standing k m n = record { kind = k; at = m; «then» = n }
 
-abbrev pub Precedes : Place → Place → Type 0
+abbrev pub Precedes : Standing → Standing → Type 0
 Precedes p q = (p.kind < q.kind) ⊎ ((p.kind ≡ q.kind) × ((p.at < q.at) ⊎ ((p.at ≡ q.at) × (p.then < q.then))))
 
 -- The kinds in their order. Those of the reading come first, 0 to 6: the length, the tokens, forms, numbers and lengths of names.
@@ -97,24 +97,24 @@ work_kind = 12
 
 -- ---- what offends
 
--- something in the text offends at a place, and is told so
-pub data Offends (bs : List ℕ) : Place → Fault → Type 0 where
-  reads : (f : ReadFault) → reading.TextOffends bs f → Offends bs (place (reading.rank f) (reading.offset f) 0) (of_read f)
-  names : (raw : Raw Id) (f : NameFault) → Spells bs raw → naming.Offences raw f → Offends bs (place names_kind (naming.offset f) 0) (of_name f)
-  types : (named : Raw Link) (f : TypeFault) → IsNamed bs named → typed.Offence named f → Offends bs (place types_kind (typing.offset f) 0) (of_type f)
+-- something in the text offends, stands there among all that does, and is told so
+pub data Offends (bs : List ℕ) : Standing → Fault → Type 0 where
+  reads : (f : ReadFault) → reading.TextOffends bs f → Offends bs (standing (reading.rank f) (reading.offset f) 0) (of_read f)
+  names : (raw : Raw Id) (f : NameFault) → Spells bs raw → naming.Offences raw f → Offends bs (standing names_kind (naming.offset f) 0) (of_name f)
+  types : (named : Raw Link) (f : TypeFault) → IsNamed bs named → typed.Offence named f → Offends bs (standing types_kind (typing.offset f) 0) (of_type f)
   -- emitter e of handler h
-  bound : (arch : Arch) (h e : ℕ) → IsSystem bs arch → IsOver arch h e → Offends bs (place bound_kind h e) (bound_fault arch h e)
-  cycle : (arch : Arch) (c : CycleFound) → IsSystem bs arch → shown arch ≡ Some c → Offends bs (place cycle_kind 0 0) (cycle_fault arch c)
-  size : (arch : Arch) (what : What) (n : ℕ) → IsSystem bs arch → Counts arch what n → limit what < n → Offends bs (place size_kind (order what) 0) (size_fault what n)
-  work : (arch : Arch) (s : ℕ) → IsSystem bs arch → s < length arch.sources → work_limit < cost arch s → Offends bs (place work_kind s 0) (work_fault arch s)
+  bound : (arch : Arch) (h e : ℕ) → IsSystem bs arch → IsOver arch h e → Offends bs (standing bound_kind h e) (bound_fault arch h e)
+  cycle : (arch : Arch) (c : CycleFound) → IsSystem bs arch → shown arch ≡ Some c → Offends bs (standing cycle_kind 0 0) (cycle_fault arch c)
+  size : (arch : Arch) (what : What) (n : ℕ) → IsSystem bs arch → Counts arch what n → limit what < n → Offends bs (standing size_kind (order what) 0) (size_fault what n)
+  work : (arch : Arch) (s : ℕ) → IsSystem bs arch → s < length arch.sources → work_limit < cost arch s → Offends bs (standing work_kind s 0) (work_fault arch s)
 
 -- the fault of a text: what offends, and before all else that does
 pub record IsFault (bs : List ℕ) (f : Fault) : Type 0 where
-  pub at : Place
+  pub at : Standing
   pub offends : Offends bs at f
-  pub first : (p : Place) (g : Fault) → Offends bs p g → (g ≡ f) ⊎ Precedes at p
+  pub first : (p : Standing) (g : Fault) → Offends bs p g → (g ≡ f) ⊎ Precedes at p
 
 -- nothing in the text offends, and this is its numbered tree
 pub record IsAccepted (bs : List ℕ) (arch : Arch) : Type 0 where
   pub system : IsSystem bs arch
-  pub clean : (p : Place) (f : Fault) → Offends bs p f → ⊥
+  pub clean : (p : Standing) (f : Fault) → Offends bs p f → ⊥

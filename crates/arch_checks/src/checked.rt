@@ -2,6 +2,7 @@
 ghost use Rattle.std.specs.Prelude.{◌≡◌, ◌<◌, ℕ, List, length, map, IfOk};
 ghost use Rattle.tower_syntax.specs.Weights.{cost, memory, code, source_numbers};
 ghost use Rattle.arch_checks.specs.Firsts.{AreWithin};
+ghost use Rattle.arch_checks.specs.Limits.{limits};
 ghost use Rattle.arch_checks.specs.Offences.{IsAccepted};
 
 use channel_graph::{code, memory};
@@ -47,7 +48,7 @@ impl Checked {
     pub(crate) fn new(alloc: Global, arch: Arch, costs: Items<u64>) -> Result<Checked, NoMemory>
         requires accepted { (bs : List ℕ) × IsAccepted bs arch }
         requires costs { costs ≡ map (cost arch) (source_numbers arch) }
-        requires within { AreWithin arch 11 }
+        requires within { AreWithin arch limits }
         ensures { IfOk result (λ checked. checked ≡ arch) }
     {
         let memory = memory(alloc, &arch)?;

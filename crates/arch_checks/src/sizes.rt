@@ -2,7 +2,7 @@
 ghost use Rattle.std.specs.Prelude.{◌≡◌, ◌≤◌, ◌⊎◌, ℕ, OnOk, IfOk, IfErr};
 ghost use Rattle.tower_types.specs.Records.{saturated};
 ghost use Rattle.channel_graph.specs.Circuit.{IsAcyclic};
-ghost use Rattle.arch_checks.specs.Limits.{limit};
+ghost use Rattle.arch_checks.specs.Limits.{limit, limits};
 ghost use Rattle.arch_checks.specs.Sizes.{Counts};
 ghost use Rattle.arch_checks.specs.Firsts.{AreWithin, IsSizeFault};
 
@@ -72,7 +72,7 @@ fn count(alloc: Global, arch: &Arch, what: What) -> Result<u64, NoMemory>
 /// Whether a system in which no source reaches a cycle has no more of anything than it may have.
 pub(crate) fn check_sizes(alloc: Global, arch: &Arch) -> Result<(), Fault>
     requires { IsAcyclic arch.now }
-    ensures within { OnOk result (AreWithin arch.now 11) }
+    ensures within { OnOk result (AreWithin arch.now limits) }
     ensures fault { IfErr result (λ f. (f ≡ Fault.NoMemory) ⊎ IsSizeFault arch.now f) }
 {
     for what in &ORDER {

@@ -2,8 +2,8 @@
 use Rattle.std.specs.Prelude.{ℕ, List, [], ◌∷◌, ◌++◌, flat_map, length, codes, decimal}
 use Rattle.tower_syntax.specs.Arch.{Arch}
 use Rattle.tower_syntax.specs.Weights.{cost, memory, code, source_numbers}
+use Rattle.arch_checks.specs.Offences.{source_name}
 use Rattle.tower_report.specs.Bytes.{Bytes, line}
-use Rattle.tower_report.specs.MarkText.{source_name}
 
 abbrev pub tower_line : Arch → Bytes
 tower_line arch = line (codes "tower" ∷ arch.name ∷ [])

@@ -1,16 +1,14 @@
 -- The lines of a step: its mark, and what it wrote on an output.
-use Rattle.std.specs.Prelude.{ℕ, ◌<◌, length, ℤ, List, [], ◌∷◌, map, codes, decimal, slice_index_or}
+use Rattle.std.specs.Prelude.{ℕ, ◌<◌, length, ℤ, List, [], ◌∷◌, codes, decimal}
 use Rattle.tower_types.specs.Ty.{Shape, shape_of}
 use Rattle.tower_syntax.specs.declared.event.Mark.{Mark}
 use Rattle.tower_syntax.specs.declared.event.Mark.TheVariants as mark
 use Rattle.tower_syntax.specs.Arch.{Arch}
 use Rattle.tower_syntax.specs.Graph.{output}
 use Rattle.tower_syntax.specs.Weights.{channel_message}
+use Rattle.arch_checks.specs.Offences.{source_name}
 use Rattle.tower_report.specs.Bytes.{Bytes, line}
 use Rattle.tower_report.specs.ValueText.{words_text}
-
-abbrev pub source_name : Arch → ℕ → Bytes
-source_name arch x = slice_index_or (map (λ s. s.name) arch.sources) x []
 
 abbrev pub output_name : Arch → ℕ → Bytes
 output_name arch o = (output arch o).name

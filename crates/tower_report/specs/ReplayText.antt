@@ -8,9 +8,10 @@ use Rattle.tower_syntax.specs.Graph.{numbers_before}
 use Rattle.tower_syntax.specs.Weights.{states_of}
 use Rattle.tower_meaning.specs.System.{System, system_of}
 use Rattle.tower_meaning.specs.Atomic.{Atomic, start, act}
+use Rattle.arch_checks.specs.Offences.{source_name}
 use Rattle.tower_report.specs.Bytes.{Bytes, line}
 use Rattle.tower_report.specs.ValueText.{value_text, texts_of_values, parts_of, shapes_in}
-use Rattle.tower_report.specs.MarkText.{source_name, output_name, output_shape}
+use Rattle.tower_report.specs.MarkText.{output_name, output_shape}
 use Rattle.tower_report.specs.EndText.{monitor_name, state_lines, losses_text}
 
 -- ---- the replay

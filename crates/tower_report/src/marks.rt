@@ -1,7 +1,8 @@
 //! The lines of a step.
 ghost use Rattle.std.specs.Prelude.{◌≡◌, ◌<◌, ◌≤◌, length};
 ghost use Rattle.tower_types.specs.Ty.{depth, words as words_in};
-ghost use Rattle.tower_report.specs.MarkText.{IsMarkOf, mark_line, out_line, output_shape, source_name};
+ghost use Rattle.arch_checks.specs.Offences.{source_name};
+ghost use Rattle.tower_report.specs.MarkText.{IsMarkOf, mark_line, out_line, output_shape};
 ghost use Rattle.tower_report.specs.Puts.{Puts};
 
 use crate::pieces::{answer, put_line};
