@@ -34,10 +34,10 @@ falls arch depths k j known pos link =
 step : (arch : Arch) (depths costs : List ℕ) (d k : ℕ) → AreDepths arch depths → suc d ≤ length arch.handlers → (r : RightTo arch depths costs d) → rank depths k ≡ suc d → further arch r.f k ≡ deliver arch k
 step arch depths costs d k known few r at =
     let pos : 0 < rank depths k = omega (arith, at) in
-    let led = λ (j : ℕ) (link : leads arch k j ≡ true).
+    let led : (j : ℕ) → leads arch k j ≡ true → r.f j ≡ deliver arch j = λ j link.
     let less = falls arch depths k j known pos link in
     r.right j (known.closed k j pos link) (omega (arith, less, at)) in
-    let short = λ (hs : List ℕ) (along : LeadsAlong arch k hs).
+    let short : (hs : List ℕ) → LeadsAlong arch k hs → length hs ≤ d = λ hs along.
     let most = (known.known k pos).longest (length hs + 1) (record { rest = hs; along = along; long = refl }) in
     omega (arith, most, at) in
     further_agrees arch r.f (deliver arch) k led ∙ round_more arch d (length arch.handlers) k short (omega (arith, few))
@@ -99,6 +99,14 @@ kept_more depths before after n kept cut same = record {
     | inr late ↦ let at : n ≡ k = omega arith in subst (λ i. 0 < rank depths i → rank before i ≡ rank after i) at same
   ];
 }
+
+-- lists that are read
+pub kept_read : (ds bs cs depths before after : List ℕ) (n : ℕ) → ds ≡ depths → bs ≡ before → cs ≡ after → length depths ≡ n → AreKept ds bs cs (length ds) → AreKept depths before after n
+kept_read ds bs cs depths before after n d b c each kept =
+    let first = subst (λ xs. AreKept xs bs cs (length xs)) d kept in
+    let second = subst (λ xs. AreKept depths xs cs (length depths)) b first in
+    let third = subst (λ xs. AreKept depths before xs (length depths)) c second in
+    subst (AreKept depths before after) each third
 
 -- what it weighs to deliver one message of a source
 pub source_right : (arch : Arch) (costs : List ℕ) (s : ℕ) → s < length arch.sources → (d : AreDeliveries arch costs) → weight_among arch d.of_handler arch.listeners (on.Source s) ≡ weight_among arch (deliver arch) arch.listeners (on.Source s)

@@ -58,7 +58,8 @@ fn round(
     requires sections { IsTable (length arch.now.handlers) (section_of arch.now) sections.now }
     requires moves { IsTable (length arch.now.channels) (channel_move arch.now) moves.now }
     requires before { length before.now ≡ length arch.now.handlers }
-    ensures { IfOk result (λ after. (f : ℕ → ℕ) → IsTable (length arch.now.handlers) f before.now
+    ensures each { IfOk result (λ after. length after ≡ length arch.now.handlers) }
+    ensures rounds { IfOk result (λ after. (f : ℕ → ℕ) → IsTable (length arch.now.handlers) f before.now
         → IsTable (length arch.now.handlers) (further arch.now f) after) }
 {
     let totals = channel_weights(alloc, arch, moves, before)?;
