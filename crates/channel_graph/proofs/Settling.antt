@@ -6,9 +6,9 @@ use Rattle.tower_syntax.specs.declared.arch.On.TheVariants as on
 use Rattle.tower_syntax.specs.declared.arch.Listener.TheVariants as to
 use Rattle.tower_syntax.specs.Arch.{Arch}
 use Rattle.tower_syntax.specs.Graph.{leads, subs}
-use Rattle.tower_syntax.specs.Weights.{deliver, subscribers_weight, message_words}
+use Rattle.tower_syntax.specs.Weights.{deliver, message_words}
 use Rattle.tower_syntax.specs.WellNumbered.{AreListeners}
-use Rattle.channel_graph.specs.Chain.{IsOnSource, LeadsAlong}
+use Rattle.channel_graph.specs.Chain.{LeadsAlong}
 use Rattle.channel_graph.specs.Ranked.{rank}
 use Rattle.channel_graph.specs.Table.{IsTable, further, weight_among}
 use Rattle.channel_graph.specs.Deep.{AreDepths, IsDeepest}
@@ -83,22 +83,6 @@ kept_deliveries arch depths costs after n listed known deepest few kept each rou
           let here = deepest.all h (source_handler_below arch h o.source listed o.on) o in
           r.right h here.0 (omega (arith, here.1, few));
     }
-
-pub rounds_deliveries : (arch : Arch) (costs : List ℕ) → IsTable (length arch.handlers) (deliver arch) costs → AreDeliveries arch costs
-rounds_deliveries arch costs table = record { of_handler = deliver arch; table = table; right = λ h o. refl }
-
--- one more number that is the same
-pub kept_more : (depths before after : List ℕ) (n : ℕ) → AreKept depths before after n → rank before n ≡ saturated (rank before n) → (0 < rank depths n → rank before n ≡ rank after n) → AreKept depths before after (n + 1)
-kept_more depths before after n kept cut same = record {
-  cut = λ k below. elim (cases_lt k n) [
-    | inl early ↦ kept.cut k early
-    | inr late ↦ let at : n ≡ k = omega arith in subst (λ i. rank before i ≡ saturated (rank before i)) at cut
-  ];
-  same = λ k below. elim (cases_lt k n) [
-    | inl early ↦ kept.same k early
-    | inr late ↦ let at : n ≡ k = omega arith in subst (λ i. 0 < rank depths i → rank before i ≡ rank after i) at same
-  ];
-}
 
 -- lists that are read
 pub kept_read : (ds bs cs depths before after : List ℕ) (n : ℕ) → ds ≡ depths → bs ≡ before → cs ≡ after → length depths ≡ n → AreKept ds bs cs (length ds) → AreKept depths before after n

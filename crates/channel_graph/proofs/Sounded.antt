@@ -1,7 +1,7 @@
 -- Depths of handlers and channels, one by one.
-use Rattle.std.proofs.Common.{◌≡◌, ℕ, zero, suc, ◌+◌, ◌-◌, ◌<◌, ◌≤◌, List, [], ◌∷◌, Contains, length, map, get_or, set, slice_get, Some, max, replicate, true, ◌⊎◌, inl, inr, arith, refl, sym, ◌∙◌, ap, subst, get_or-set_same, get_or-set_other}
+use Rattle.std.proofs.Common.{◌≡◌, ℕ, zero, suc, ◌+◌, ◌-◌, ◌<◌, ◌≤◌, List, [], ◌∷◌, Contains, length, map, get_or, set, slice_get, Some, max, true, inl, inr, arith, refl, sym, ◌∙◌, ap, subst, get_or-set_same, get_or-set_other}
 use Rattle.std.proofs.lemmas.Bool.{cases_lt, cases_eq}
-use Rattle.std.proofs.lemmas.List.{length-map, length-set, length-replicate}
+use Rattle.std.proofs.lemmas.List.{length-map, length-set}
 use Rattle.tower_syntax.specs.declared.arch.On.TheVariants as on
 use Rattle.tower_syntax.specs.declared.arch.Emitter.{Emitter as EmitterValue}
 use Rattle.tower_syntax.specs.declared.arch.Handler.{Handler as HandlerValue}
@@ -15,18 +15,15 @@ use Rattle.channel_graph.specs.Lengths.{Starts, HasWalk}
 use Rattle.channel_graph.specs.Ranked.{rank}
 use Rattle.channel_graph.specs.Reaching.{is_on, first_on}
 use Rattle.channel_graph.specs.Deep.{IsDepth, IsDepthOn, AreDepths, IsKnown, IsTop, IsDeepest, emitted}
-use Rattle.channel_graph.proofs.Members.{In, In-get_or, contains_from_In}
+use Rattle.channel_graph.proofs.Members.{In, contains_from_In}
 use Rattle.channel_graph.proofs.Linked.{link_of, of_link, source_handler_below}
 use Rattle.channel_graph.proofs.Led.{in_map, emitters_read}
 use Rattle.channel_graph.proofs.Looked.{read_twice}
 use Rattle.channel_graph.proofs.Searched.{at_first_on, audience_at}
-use Rattle.channel_graph.proofs.Walked.{no_walk_yet, chain_found, chain_within}
+use Rattle.channel_graph.proofs.Walked.{chain_found, chain_within}
 use Rattle.std.proofs.lemmas.List.{get_or_default}
 
 -- ---- the greatest of some numbers
-
-pub top_start : (xs places : List ℕ) (floor : ℕ) → IsTop xs floor floor 0 places
-top_start xs places floor = record { above = omega arith; each = λ j below. absurd (omega arith); some = inl refl }
 
 -- one place more
 pub top_more : (xs places : List ℕ) (floor n m x out : ℕ) → IsTop xs floor n m places → x ≡ rank xs (get_or places m 0) → 0 < x → out ≡ max n x → IsTop xs floor out (m + 1) places
@@ -172,8 +169,8 @@ known_handler arch q k n listed known inside top =
         each = length-set q.handlers k n ∙ known.depths.each;
         known = set_holds (IsDepth arch) q.handlers k n below (handler_depth arch q k n listed known top) known.depths.known;
         closed = λ i j pos link. set_above q.handlers k n j below some (set_holds (λ h r. leads arch h j ≡ true → 0 < rank q.handlers j) q.handlers k n below
-          (λ first. let h = heard_of arch k j listed first in known.heard (get_or (emitted arch k) h.place 0) j (top.each h.place h.within).0 h.below h.on)
-          (λ h p later. known.depths.closed h j p later) i pos link);
+            (λ first. let h = heard_of arch k j listed first in known.heard (get_or (emitted arch k) h.place 0) j (top.each h.place h.within).0 h.below h.on)
+            (λ h p later. known.depths.closed h j p later) i pos link);
       };
       each = known.each;
       known = known.known;
@@ -192,30 +189,7 @@ known_channel arch q ks c n known inside same top =
           (λ a p there. known.heard a k p b there) d pos o;
     }
 
-none_known : (n k : ℕ) → rank (replicate n 0) k ≡ 0
-none_known zero k = refl
-none_known (suc n) zero = refl
-none_known (suc n) (suc k) = none_known n k
-
-pub nothing_known : (arch : Arch) (q : Known) → q.handlers ≡ replicate (length arch.handlers) 0 → q.channels ≡ replicate (length arch.channels) 0 → IsKnown arch q
-nothing_known arch q hs cs = record {
-  depths = record {
-    each = ap length hs ∙ length-replicate (length arch.handlers) 0;
-    known = λ k pos. absurd (nowhere q.handlers (length arch.handlers) k hs pos);
-    closed = λ k j pos link. absurd (nowhere q.handlers (length arch.handlers) k hs pos);
-  };
-  each = ap length cs ∙ length-replicate (length arch.channels) 0;
-  known = λ c pos. absurd (nowhere q.channels (length arch.channels) c cs pos);
-  heard = λ c k pos b o. absurd (nowhere q.channels (length arch.channels) c cs pos);
-}
-  where
-    nowhere : (xs : List ℕ) (n k : ℕ) → xs ≡ replicate n 0 → 0 < rank xs k → ⊥
-    nowhere xs n k same pos = let zero_there : rank xs k ≡ 0 = ap (λ ys. rank ys k) same ∙ none_known n k in omega arith
-
 -- ---- the handlers on sources
-
-pub deepest_none : (arch : Arch) (depths : List ℕ) → IsDeepest arch depths 0 0
-deepest_none arch depths = record { walk = no_walk_yet arch; all = λ h below o. absurd (omega arith) }
 
 pub deepest_pass : (arch : Arch) (depths : List ℕ) (k n : ℕ) → IsDeepest arch depths k n → (IsOnSource arch k → ⊥) → IsDeepest arch depths (k + 1) n
 deepest_pass arch depths k n d none = record {

@@ -18,9 +18,9 @@ loop-h-preserved c =
     let grown : length c.push.new.self ≡ h + 1 = omega (arith, ap length c.in_ok-push.ensures.ok, length-append c.loop-h.after (c.saturating_add.result ∷ []), c.loop-h.invariant.0) in (
       grown,
       λ f table.
-    let totals = table_read (length arch.channels) (channel_weight arch f) c.in_ok-totals.totals c.as_slice.result.now c.as_slice.ensures (c.in_ok-totals.ensures.weights f table) in
-    let here = rounded arch f h c.handler.result.now c.as_slice-emitters.result.now c.args.sections.now c.emitters_weight-follows.result c.saturating_add.result c.handler.ensures.value c.as_slice-emitters.ensures c.requires.sections below (c.emitters_weight-follows.ensures arch f totals) c.saturating_add.ensures in
-    table_more h (further arch f) c.loop-h.after c.push.new.self c.saturating_add.result (c.loop-h.invariant.1 f table) c.in_ok-push.ensures.ok here,
+          let totals = table_read (length arch.channels) (channel_weight arch f) c.in_ok-totals.totals c.as_slice.result.now c.as_slice.ensures (c.in_ok-totals.ensures.weights f table) in
+          let here = rounded arch f h c.handler.result.now c.as_slice-emitters.result.now c.args.sections.now c.emitters_weight-follows.result c.saturating_add.result c.handler.ensures.value c.as_slice-emitters.ensures c.requires.sections below (c.emitters_weight-follows.ensures arch f totals) c.saturating_add.ensures in
+          table_more h (further arch f) c.loop-h.after c.push.new.self c.saturating_add.result (c.loop-h.invariant.1 f table) c.in_ok-push.ensures.ok here,
     )
 
 pub returns-clause-each : goal.returns-clause-each

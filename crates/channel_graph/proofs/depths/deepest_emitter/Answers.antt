@@ -1,7 +1,6 @@
-use Rattle.std.proofs.Common.{◌≡◌, length, arith, subst}
-use Rattle.channel_graph.specs.Deep.{IsTop, emitted}
+use Rattle.std.proofs.Common.{◌≡◌, length, arith}
 use Rattle.channel_graph.proofs.Led.{channel_below}
-use Rattle.channel_graph.proofs.Sounded.{top_start, emitter_more, emitters_end}
+use Rattle.channel_graph.proofs.Sounded.{emitter_more, emitters_end}
 use Rattle.channel_graph.proofs.depths.deepest_emitter.Goals as goal
 
 pub bounds-depths-emitter : goal.bounds-depths-emitter

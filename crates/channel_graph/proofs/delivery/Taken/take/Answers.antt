@@ -1,5 +1,4 @@
-use Rattle.std.proofs.Common.{◌≡◌, ◌<◌, ◌∙◌, length, ap, sym, subst, arith}
-use Rattle.tower_syntax.specs.WellNumbered.{IsNumberedOn}
+use Rattle.std.proofs.Common.{◌∙◌, length, ap}
 use Rattle.channel_graph.proofs.Rounded.{channels_below}
 use Rattle.channel_graph.proofs.delivery.Taken.take.Goals as goal
 

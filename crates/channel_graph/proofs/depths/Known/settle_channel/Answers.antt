@@ -1,4 +1,4 @@
-use Rattle.std.proofs.Common.{◌≡◌, ◌<◌, length, set, arith, subst, sym}
+use Rattle.std.proofs.Common.{◌≡◌, length, arith, subst, sym}
 use Rattle.tower_syntax.specs.declared.arch.On.TheVariants as on
 use Rattle.channel_graph.specs.Deep.{IsKnown, IsTop}
 use Rattle.channel_graph.proofs.Searched.{audience, audience_at}
