@@ -32,7 +32,7 @@ pub record AreDepths (arch : Arch) (depths : List ℕ) : Type 0 where
   pub known : (k : ℕ) → 0 < rank depths k → IsDepth arch k (rank depths k)
   pub closed : (k j : ℕ) → 0 < rank depths k → leads arch k j ≡ true → 0 < rank depths j
 
--- so it is, and the same holds of channels and the handlers on them
+-- the numbers of handlers are depths, those of channels are right or 0, and each handler on a channel with a number has a depth
 pub record IsKnown (arch : Arch) (q : Known) : Type 0 where
   pub depths : AreDepths arch q.handlers
   pub each : length q.channels ≡ length arch.channels
@@ -49,7 +49,7 @@ pub record IsTop (xs : List ℕ) (floor n m : ℕ) (places : List ℕ) : Type 0 
 abbrev pub emitted : Arch → ℕ → List ℕ
 emitted arch k = map (λ e. e.channel) (handler arch k).emitters
 
--- those of the first m handlers that are on a source have depths, the greatest of which is n, or none is on a source, and n is 0
+-- those of the first m handlers that are on a source have depths, none above n, and some walk has n handlers
 pub record IsDeepest (arch : Arch) (depths : List ℕ) (m n : ℕ) : Type 0 where
   pub walk : HasWalk arch n
   pub all : (h : ℕ) → h < m → IsOnSource arch h → (0 < rank depths h) × (rank depths h ≤ n)
