@@ -25,5 +25,7 @@ pub mod Delivered
 pub mod Rounded
 pub mod Walked
 pub mod Recursed
+pub mod Sounded
+pub mod Settling
 pub mod Firsts
 pub mod ShownWalk

@@ -18,7 +18,7 @@ use Rattle.channel_graph.proofs.Walked.{walk_is_short}
 
 -- ---- only what a handler leads to counts
 
-subscribers_agree : (f g : ℕ → ℕ) (w : ℕ) (ls : List Listener) → ((k : ℕ) → In (to.Handler k) ls → f k ≡ g k) → subscribers_weight f w ls ≡ subscribers_weight g w ls
+pub subscribers_agree : (f g : ℕ → ℕ) (w : ℕ) (ls : List Listener) → ((k : ℕ) → In (to.Handler k) ls → f k ≡ g k) → subscribers_weight f w ls ≡ subscribers_weight g w ls
 subscribers_agree f g w [] same = refl
 subscribers_agree f g w (to.Output o ∷ ls) same = omega (arith, subscribers_agree f g w ls (λ k m. same k (inr m)))
 subscribers_agree f g w (to.Handler k ∷ ls) same = omega (arith, same k (inl refl), subscribers_agree f g w ls (λ j m. same j (inr m)))
@@ -30,7 +30,7 @@ emitters_agree arch f g (e ∷ es) same =
     let one : emitter_weight arch f e ≡ emitter_weight arch g e = ap (λ n. 32 + e.bound * (32 + n)) here in
     ap (λ n. n ∷ map (emitter_weight arch f) es) one ∙ ap (λ ns. emitter_weight arch g e ∷ ns) (emitters_agree arch f g es (λ d k m. same d k (inr m)))
 
-further_agrees : (arch : Arch) (f g : ℕ → ℕ) (h : ℕ) → ((k : ℕ) → leads arch h k ≡ true → f k ≡ g k) → further arch f h ≡ further arch g h
+pub further_agrees : (arch : Arch) (f g : ℕ → ℕ) (h : ℕ) → ((k : ℕ) → leads arch h k ≡ true → f k ≡ g k) → further arch f h ≡ further arch g h
 further_agrees arch f g h same =
     ap (λ ns. section arch (handler arch h) + sum ns) (emitters_agree arch f g (handler arch h).emitters (λ e k m there.
     same k (has_any (λ d. list_any (is_handler k) (subs arch (on.Channel d.channel))) (handler arch h).emitters e m (has_any (is_handler k) (subs arch (on.Channel e.channel)) (to.Handler k) there (eq-eqb k k refl)))))
@@ -38,7 +38,7 @@ further_agrees arch f g h same =
 -- ---- walks from a handler are short
 
 -- at most n links in a row go on from h
-abbrev IsShort : Arch → ℕ → ℕ → Type 0
+abbrev pub IsShort : Arch → ℕ → ℕ → Type 0
 IsShort arch n h = (hs : List ℕ) → LeadsAlong arch h hs → length hs ≤ n
 
 none_further : (arch : Arch) (h k : ℕ) → IsShort arch 0 h → leads arch h k ≡ true → ⊥
@@ -81,7 +81,7 @@ reached_short arch s h listed acyclic exists reach = record {
 
 -- ---- more rounds change nothing
 
-round_more : (arch : Arch) (n m h : ℕ) → IsShort arch n h → n < m → deliver_within (suc m) arch h ≡ deliver_within m arch h
+pub round_more : (arch : Arch) (n m h : ℕ) → IsShort arch n h → n < m → deliver_within (suc m) arch h ≡ deliver_within m arch h
 round_more arch n zero h short enough = absurd (omega arith)
 round_more arch zero (suc m) h short enough =
     further_agrees arch (deliver_within (suc m) arch) (deliver_within m arch) h (λ k link. absurd (none_further arch h k short link))

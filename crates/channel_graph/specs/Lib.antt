@@ -10,6 +10,8 @@ pub mod Rough
 pub mod Chain
 pub mod Relay
 pub mod Lengths
+pub mod Deep
+pub mod Kept
 pub mod Stepped
 pub mod Site
 pub mod Scoped

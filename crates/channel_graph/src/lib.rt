@@ -9,6 +9,7 @@ mod circuit;
 mod code_weight;
 mod counting;
 mod delivery;
+mod depths;
 pub mod laws;
 mod levels;
 mod links;

@@ -1,4 +1,5 @@
-//! The longest walk from a source: length by length, the handlers at which a walk of so many handlers starts.
+//! The longest walk from a source: by depths where they are known, and else length by length, by the handlers at which
+//! a walk of so many handlers starts.
 
 ghost use Rattle.std.specs.Prelude.{◌≡◌, ◌<◌, ℕ, length, MatchBool, IfOk};
 ghost use Rattle.tower_syntax.specs.WellNumbered.{AreListeners};
@@ -7,9 +8,10 @@ ghost use Rattle.channel_graph.specs.Chain.{IsChain, IsChainWithin};
 ghost use Rattle.channel_graph.specs.Lengths.{AreBefore, IsStart, IsOnMark};
 
 use crate::circuit::{is_heard, loud_channels};
+use crate::depths::{deepest_start, depths, is_on_source, order};
 use sqlite_items::Items;
 use std::alloc::Global;
-use tower_syntax::{Arch, On};
+use tower_syntax::Arch;
 use tower_types::NoMemory;
 
 /// A 1 for each handler that leads to one with a number above 0, and a 0 for each other.
@@ -36,10 +38,7 @@ fn is_start(arch: &Arch, ranks: &[u64], k: u32) -> bool
     if ranks[k as usize] == 0 {
         return false;
     }
-    match arch.handler(k).on {
-        On::Source(_) => true,
-        On::Channel(_) => false,
-    }
+    is_on_source(arch, k)
 }
 
 /// Whether a handler on a source has a number above 0.
@@ -57,9 +56,9 @@ fn starts_on_source(arch: &Arch, ranks: &[u64]) -> bool
     false
 }
 
-/// The greatest number of handlers on a walk from a source, 0 where no source has a handler. Where a source reaches a
-/// cycle there is none: then it is the greatest among the walks that are no longer than there are handlers.
-pub fn chain(alloc: Global, arch: &Arch) -> Result<u64, NoMemory>
+/// The greatest number of handlers on a walk from a source, or among the walks that are no longer than there are
+/// handlers, where a source reaches a cycle.
+fn chain_by_lengths(alloc: Global, arch: &Arch) -> Result<u64, NoMemory>
     ensures within { IfOk result (IsChainWithin arch.now (length arch.now.handlers)) }
     ensures chain { IfOk result (λ n. IsAcyclic arch.now → IsChain arch.now n) }
 {
@@ -72,4 +71,18 @@ pub fn chain(alloc: Global, arch: &Arch) -> Result<u64, NoMemory>
         ranks = one_before(alloc, arch, ranks.as_slice())?;
     }
     Ok(count as u64)
+}
+
+/// The greatest number of handlers on a walk from a source, 0 where no source has a handler. Where a source reaches a
+/// cycle there is none: then it is the greatest among the walks that are no longer than there are handlers.
+pub fn chain(alloc: Global, arch: &Arch) -> Result<u64, NoMemory>
+    ensures within { IfOk result (IsChainWithin arch.now (length arch.now.handlers)) }
+    ensures chain { IfOk result (λ n. IsAcyclic arch.now → IsChain arch.now n) }
+{
+    let order = order(alloc, arch)?;
+    let depths = depths(alloc, arch, order.as_slice())?;
+    match deepest_start(arch, depths.as_slice()) {
+        Some(deepest) => Ok(deepest),
+        None => chain_by_lengths(alloc, arch),
+    }
 }

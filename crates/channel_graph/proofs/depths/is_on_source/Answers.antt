@@ -1,21 +1,18 @@
-use Rattle.std.proofs.Common.{◌∙◌, ap, sym, subst, arith}
+use Rattle.std.proofs.Common.{◌∙◌, ap, sym, subst}
 use Rattle.tower_syntax.specs.WellNumbered.{IsNumberedOn}
 use Rattle.channel_graph.proofs.Searched.{handler_read}
 use Rattle.channel_graph.proofs.Walked.{on_source, on_channel}
-use Rattle.channel_graph.proofs.longest.is_start.Goals as goal
+use Rattle.channel_graph.proofs.depths.is_on_source.Goals as goal
 
 pub returns-in-Source : goal.returns-in-Source
 returns-in-Source c =
     let arch = c.args.arch.now in
     let at = sym (ap (λ h. h.on) (handler_read arch c.args.k c.handler.result.now c.handler.ensures.value) ∙ c.in-Source.is) in
     let exists = subst (IsNumberedOn arch) c.in-Source.is c.handler.ensures.numbered.on in
-    record {
-      on = on_source arch c.args.k c.in-Source.field-0 c.requires.listed c.requires.handler exists at;
-      marked = omega arith;
-    }
+    on_source arch c.args.k c.in-Source.field-0 c.requires.listed c.requires.handler exists at
 
 pub returns-in-Channel : goal.returns-in-Channel
 returns-in-Channel c =
     let arch = c.args.arch.now in
     let at = sym (ap (λ h. h.on) (handler_read arch c.args.k c.handler.result.now c.handler.ensures.value) ∙ c.in-Channel.is) in
-    λ start. on_channel arch c.args.k c.in-Channel.field-0 at start.on
+    on_channel arch c.args.k c.in-Channel.field-0 at
