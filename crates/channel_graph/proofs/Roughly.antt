@@ -1,7 +1,7 @@
 -- Numbers that grow by at least what statements emit, and a log by which they are taken back.
-use Rattle.std.proofs.Common.{◌≡◌, ◌⊎◌, max, set, get_or-set_same, get_or-set_other, cond, eqb, ℕ, zero, suc, ◌+◌, ◌*◌, ◌<◌, ◌≤◌, ◌^◌, ◌-◌, List, [], ◌∷◌, ◌++◌, length, get_or, take, min, inl, inr, true, false, arith, sym, refl, ◌∙◌, ap, subst}
+use Rattle.std.proofs.Common.{◌≡◌, max, set, get_or-set_other, cond, eqb, ℕ, zero, suc, ◌+◌, ◌*◌, ◌<◌, ◌≤◌, ◌^◌, ◌-◌, List, [], ◌∷◌, ◌++◌, length, get_or, take, min, inl, inr, arith, sym, refl, ◌∙◌, ap, subst}
 use Rattle.std.proofs.lemmas.Bool.{cases_lt, cases_eq, eq-eqb, ne_eqb}
-use Rattle.std.proofs.lemmas.List.{take_more, length-set, length_push, same_from_push, set-set, set-get_or, set_past, get_or_past}
+use Rattle.std.proofs.lemmas.List.{take_more, length_push, same_from_push, set-set, set-get_or}
 use Rattle.std.proofs.Math.Nat.{le-mul_of_pos_right}
 use Rattle.tower_types.specs.Records.{saturated}
 use Rattle.tower_syntax.specs.declared.body.Stmt.{Stmt as StmtValue}
@@ -11,7 +11,7 @@ use Rattle.tower_syntax.specs.Weights.{most_of_stmt, most_of_stmts}
 use Rattle.tower_syntax.proofs.Views.{stmt_of-Loop}
 use Rattle.channel_graph.specs.declared.rough.Noted.{Noted}
 use Rattle.channel_graph.specs.declared.rough.Counts.{Counts}
-use Rattle.channel_graph.specs.Rough.{GrowsBy, Tops, Covers, Changes, Logs, same, more, peak_at, one_of}
+use Rattle.channel_graph.specs.Rough.{GrowsBy, Tops, Covers, Changes, Logs, same, more, peak_at}
 use Rattle.channel_graph.proofs.Counted.{most_of_stmts-more}
 
 grows_then : (f g h : ℕ → ℕ) (a b c : List ℕ) → GrowsBy f a b → GrowsBy g b c → ((e : ℕ) → h e ≤ f e + g e) → GrowsBy h a c
@@ -113,9 +113,6 @@ undone_more start from old new mark n kept at within back =
     let shorter : length new.log ≡ length last.mid.log = ap (λ c. length c.log) is in
     (subst (Logs start) (sym is) last.before, omega (arith, kept.1, last.longer, shorter))
 
-pub none_undone : (place total : ℕ) (mid old : Counts) → Changes place total mid old → old.log ≡ [] → ⊥
-none_undone place total mid old c none = let e : length old.log ≡ 0 = ap length none in omega (arith, change_longer place total mid old c)
-
 -- ---- peaks
 
 noted_here : (place total e : ℕ) → place ≡ e → cond (eqb place e) total 0 ≡ total
@@ -159,52 +156,3 @@ tops_then a b c ns n s t = record {
 pub tops_more : (a b c : List ℕ) (ns : List Noted) (i : ℕ) (d : Noted) → i < length ns → Tops a (take i ns) b → Tops b (get_or ns i d ∷ []) c → Tops a (take (i + 1) ns) c
 tops_more a b c ns i d within s t =
     subst (λ peaks. Tops a peaks c) (sym (take_more ns i d within)) (tops_then a b c (take i ns) (get_or ns i d) s t)
-
-pub tops_kept : (old : List ℕ) (n : Noted) → n.total ≤ get_or old n.place 0 → Tops old (n ∷ []) old
-tops_kept old n less = record {
-  each = refl;
-  own = λ e below. omega arith;
-  peak = λ e below. elim (cases_eq n.place e) [
-    | inl here ↦ let at : get_or old e 0 ≡ get_or old n.place 0 = ap (λ i. get_or old i 0) (sym here) in omega (arith, noted_here n.place n.total e here)
-    | inr other ↦ omega (arith, noted_elsewhere n.place n.total e other)
-  ];
-}
-
-tops_set : (old : List ℕ) (n : Noted) → get_or old n.place 0 < n.total → (e : ℕ) → e < length old → max (get_or old e 0) (peak_at (n ∷ []) e) ≤ get_or (set old n.place n.total) e 0
-tops_set old n less e below = elim (cases_eq n.place e) [
-  | inl here ↦
-      let was : get_or old e 0 ≡ get_or old n.place 0 = ap (λ i. get_or old i 0) (sym here) in
-      let inside : n.place < length old = omega arith in
-      let at : get_or (set old n.place n.total) e 0 ≡ n.total = ap (λ i. get_or (set old n.place n.total) i 0) (sym here) ∙ get_or-set_same old n.place n.total 0 inside in
-      omega (arith, noted_here n.place n.total e here)
-  | inr other ↦
-      omega (arith, noted_elsewhere n.place n.total e other, get_or-set_other old n.place e n.total 0 (λ s. other (sym s)))
-]
-
-pub tops_change : (old new : List ℕ) (n : Noted) → get_or old n.place 0 < n.total → new ≡ set old n.place n.total → Tops old (n ∷ []) new
-tops_change old new n less is =
-    subst (Tops old (n ∷ [])) (sym is) (record {
-      each = length-set old n.place n.total;
-      own = λ e below. omega (arith, tops_set old n less e below);
-      peak = λ e below. omega (arith, tops_set old n less e below);
-    })
-
--- ---- branches
-
--- the greater of both branches, the first of which was taken back
-pub branches_more : (turns : ℕ) (x y : ℕ → ℕ) (a b c d : List ℕ) (peaks : List Noted) → GrowsBy (λ e. turns * x e) a b → Covers b [] a peaks → GrowsBy (λ e. turns * y e) a c → Tops c peaks d → GrowsBy (λ e. turns * max (x e) (y e)) a d
-branches_more turns x y a b c d peaks m covers n t = record {
-  each = t.each ∙ n.each;
-  least = λ e below.
-      let inside : e < length c = omega (arith, n.each) in
-      elim (cases_lt (x e) (y e)) [
-        | inl less ↦
-            let greater : max (x e) (y e) ≡ y e = omega arith in
-            let all : turns * max (x e) (y e) ≡ turns * y e = ap (λ k. turns * k) greater in
-            omega (arith, n.least e below, t.own e inside)
-        | inr more' ↦
-            let greater : max (x e) (y e) ≡ x e = omega arith in
-            let all : turns * max (x e) (y e) ≡ turns * x e = ap (λ k. turns * k) greater in
-            omega (arith, m.least e below, covers e, n.least e below, t.own e inside, t.peak e inside)
-      ];
-}

@@ -16,15 +16,15 @@ abbrev pub peak_at : List Noted → ℕ → ℕ
 peak_at [] e = 0
 peak_at (n ∷ ns) e = max (cond (n.place == e) n.total 0) (peak_at ns e)
 
--- each number has grown if at all, and is no less than what is noted at its place
+-- each number has grown if at all, and is no less than its peak
 pub record Tops (old : List ℕ) (peaks : List Noted) (new : List ℕ) : Type 0 where
   pub each : length new ≡ length old
   pub own : (e : ℕ) → e < length old → slice_index_or old e 0 ≤ slice_index_or new e 0
   pub peak : (e : ℕ) → e < length old → peak_at peaks e ≤ slice_index_or new e 0
 
--- no number that is gone was greater than both what stands at its place now and what is noted there
+-- at each place the greater of the number and its peak is no less than it was
 abbrev pub Covers : List ℕ → List Noted → List ℕ → List Noted → Type 0
-Covers old noted new peaks = (e : ℕ) → max (slice_index_or old e 0) (peak_at noted e) ≤ max (slice_index_or new e 0) (peak_at peaks e)
+Covers old before new after = (e : ℕ) → max (slice_index_or old e 0) (peak_at before e) ≤ max (slice_index_or new e 0) (peak_at after e)
 
 -- a number is put at a place, if there is one, and what stood there behind the log
 pub record Changes (place total : ℕ) (old new : Counts) : Type 0 where

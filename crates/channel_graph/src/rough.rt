@@ -11,14 +11,14 @@ use std::alloc::Global;
 use tower_syntax::{Handler, Stmt};
 use tower_types::NoMemory;
 
-/// A total that stood at a place.
-#[derive(Clone, Copy, Debug, PartialEq, Eq)]
+/// What stood at a place of the totals.
+#[derive(Clone, Copy)]
 struct Noted {
     place: u32,
     total: u64,
 }
 
-/// A total for each emitter, and for each change of one what stood there before, the last change last.
+/// A total for each emitter, and a log: for each change of a total what stood there before, the last change last.
 #[derive(Drop)]
 struct Counts {
     totals: Items<u64>,
@@ -70,7 +70,7 @@ impl Counts {
         Ok(())
     }
 
-    /// Raises a total to at least a peak.
+    /// Raises the total at the place of a peak to at least that peak.
     fn raise_to(&mut self, peak: Noted) -> Result<(), NoMemory>
         ensures totals { OnOk result (Tops self.old.totals (peak ∷ []) self.new.totals) }
         ensures log { OnOk result (Logs self.old self.new) }
@@ -81,7 +81,7 @@ impl Counts {
         Ok(())
     }
 
-    /// Raises totals to at least some peaks.
+    /// Raises the totals at the places of peaks to at least these.
     fn raise(&mut self, peaks: &[Noted]) -> Result<(), NoMemory>
         ensures totals { OnOk result (Tops self.old.totals peaks.now self.new.totals) }
         ensures log { OnOk result (Logs self.old self.new) }
@@ -92,7 +92,7 @@ impl Counts {
         Ok(())
     }
 
-    /// Takes back the last change, and notes what stood there.
+    /// Takes back the last change, if there is one, and adds what it had put there to the peaks.
     fn undo(&mut self, peaks: &mut Items<Noted>) -> Result<(), NoMemory>
         ensures back { OnOk result ((mid : Counts) (place total : ℕ) → Changes place total mid self.old → self.new ≡ mid) }
         ensures peaks { OnOk result (Covers self.old.totals peaks.old self.new.totals peaks.new) }
@@ -108,7 +108,7 @@ impl Counts {
         Ok(())
     }
 
-    /// Takes back the changes since the log had a length. Answers what stood at the places that they changed.
+    /// Takes back all changes since the log had the length `mark`. Answers what they had put where.
     fn take_back(&mut self, alloc: Global, mark: usize) -> Result<Items<Noted>, NoMemory>
         ensures back { OnOk result ((start : Counts) → Logs start self.old → length start.log ≡ mark → self.new ≡ start) }
         ensures peaks { IfOk result (Covers self.old.totals [] self.new.totals) }
@@ -123,12 +123,7 @@ impl Counts {
 
 /// Adds what some statements emit in so many turns.
 #[cycle(roughly)]
-fn add_stmts(
-    alloc: Global,
-    counts: &mut Counts,
-    stmts: &[Stmt],
-    turns: u64,
-) -> Result<(), NoMemory>
+fn add_stmts(alloc: Global, counts: &mut Counts, stmts: &[Stmt], turns: u64) -> Result<(), NoMemory>
     ensures totals { OnOk result
         (GrowsBy (λ e. turns * most_of_stmts e (all_stmts_of stmts.now)) counts.old.totals counts.new.totals) }
     ensures log { OnOk result (Logs counts.old counts.new) }
