@@ -27,3 +27,4 @@ pub mod Walked
 pub mod Recursed
 pub mod Firsts
 pub mod ShownWalk
+pub mod Ahead

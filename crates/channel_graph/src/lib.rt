@@ -16,6 +16,7 @@ mod listening;
 mod longest;
 mod looping;
 mod marked;
+mod ranking;
 mod reach;
 mod rough;
 mod scope;
