@@ -116,10 +116,10 @@ nearest_more arch ranks k old new (on.Channel a) e within t m =
 -- ---- the nearest of those that a handler leads to
 
 -- one of the channels of the emitters has it
-record IsOf (table : List Nearest) (es : List Emitter) (x : Nearest) : Type 0 where
-  emitter : Emitter
-  has : In emitter es
-  is : nearest_at table emitter.channel ≡ x
+pub record IsOf (table : List Nearest) (es : List Emitter) (x : Nearest) : Type 0 where
+  pub emitter : Emitter
+  pub has : In emitter es
+  pub is : nearest_at table emitter.channel ≡ x
 
 -- the nearest on the channels of these emitters
 pub record IsFirstOf (table : List Nearest) (es : List Emitter) (x : Nearest) : Type 0 where
