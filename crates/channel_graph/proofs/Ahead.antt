@@ -40,21 +40,6 @@ no_farther_both x y z f g = λ pos.
 
 -- ---- the nearest on each channel
 
--- none of no handlers
-pub none_nearest : (arch : Arch) (ranks : List ℕ) (table : List Nearest) → table ≡ replicate (length arch.channels) no_nearest → AreNearest arch ranks 0 table
-none_nearest arch ranks table same =
-    subst (AreNearest arch ranks 0) (sym same) (record {
-      each = length-replicate (length arch.channels) no_nearest;
-      found = λ c pos. absurd (elim (cases_lt c (length arch.channels)) [
-        | inl below ↦ let none : (nearest_at (replicate (length arch.channels) no_nearest) c).rank ≡ 0 = ap (λ x. x.rank) (get_or-replicate (length arch.channels) c no_nearest no_nearest below) in omega (arith, pos, none)
-        | inr above ↦
-            let past : length (replicate (length arch.channels) no_nearest) ≤ c = omega (arith, above, length-replicate (length arch.channels) no_nearest) in
-            let none : (nearest_at (replicate (length arch.channels) no_nearest) c).rank ≡ 0 = ap (λ x. x.rank) (get_or_past (replicate (length arch.channels) no_nearest) c no_nearest past) in
-            omega (arith, pos, none)
-      ]);
-      least = λ c k inside below o. absurd (omega (arith, below));
-    })
-
 on_later : (arch : Arch) (ranks : List ℕ) (n c : ℕ) (x : Nearest) → IsOnChannel arch ranks n c x → IsOnChannel arch ranks (n + 1) c x
 on_later arch ranks n c x o = record { below = omega (arith, o.below); on = o.on; ranked = o.ranked }
 
@@ -82,12 +67,12 @@ nearest_more arch ranks k old new (on.Channel a) e within t m =
       each = length-set old a x ∙ t.each;
       found = λ c pos. elim (cases_eq c a) [
         | inl same ↦ subst (λ d. IsOnChannel arch ranks (k + 1) d (nearest_at (set old a x) d)) (sym same)
-          (subst (IsOnChannel arch ranks (k + 1) a) (sym here) (found_at_a on_a (subst (λ y. 0 < y.rank) here (subst (λ d. 0 < (nearest_at (set old a x) d).rank) same pos))))
+            (subst (IsOnChannel arch ranks (k + 1) a) (sym here) (found_at_a on_a (subst (λ y. 0 < y.rank) here (subst (λ d. 0 < (nearest_at (set old a x) d).rank) same pos))))
         | inr other ↦ subst (IsOnChannel arch ranks (k + 1) c) (sym (apart c other)) (on_later arch ranks k c (nearest_at old c) (t.found c (subst (λ y. 0 < y.rank) (apart c other) pos)))
       ];
       least = λ c j inside below o. elim (cases_eq c a) [
         | inl same ↦ subst (λ d. IsNoFarther (nearest_at (set old a x) d) (ranked_at ranks j)) (sym same)
-          (subst (λ y. IsNoFarther y (ranked_at ranks j)) (sym here) (least_at_a j below (subst (λ d. d < length arch.channels) same inside) (subst (λ d. is_on arch (on.Channel d) j ≡ true) same o)))
+            (subst (λ y. IsNoFarther y (ranked_at ranks j)) (sym here) (least_at_a j below (subst (λ d. d < length arch.channels) same inside) (subst (λ d. is_on arch (on.Channel d) j ≡ true) same o)))
         | inr other ↦ subst (λ y. IsNoFarther y (ranked_at ranks j)) (sym (apart c other)) (elim (cases_lt j k) [
           | inl early ↦ t.least c j inside early o
           | inr late ↦
