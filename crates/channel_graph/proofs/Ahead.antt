@@ -1,8 +1,7 @@
 -- What is nearest ahead, and the walk that ranks show.
-use Rattle.std.proofs.Common.{◌≡◌, ◌≢◌, ℕ, zero, suc, ◌+◌, ◌-◌, ◌<◌, ◌≤◌, List, [], ◌∷◌, ◌++◌, length, get_or, set, take, map, slice_get, Option, Some, None, unwrap_or, Bool, true, false, ◌&&◌, ◌==◌, nat_lt, nat_le, ◌⊎◌, inl, inr, All, arith, refl, sym, ◌∙◌, ap, subst, append_assoc, append-nil, get_or-set_same, get_or-set_other, replicate}
-use Rattle.std.specs.List.{list_any, find}
-use Rattle.std.proofs.lemmas.Bool.{false≢true, cases_Bool, cases_eq, cases_lt, or_cases, eqb-true, eq-eqb, ne_eqb, and_from, and_parts, lt-ltb, ltb-true, le-leb, leb-true}
-use Rattle.std.proofs.lemmas.List.{length-set, take_more, get_or_past, length-replicate, get_or-replicate, get_or_default}
+use Rattle.std.proofs.Common.{◌≡◌, ◌≢◌, ℕ, zero, suc, ◌+◌, ◌-◌, ◌<◌, ◌≤◌, List, [], ◌∷◌, ◌++◌, length, get_or, set, take, map, slice_get, Option, Some, None, unwrap_or, Bool, true, false, ◌&&◌, ◌==◌, nat_lt, nat_le, ◌⊎◌, inl, inr, All, arith, refl, sym, ◌∙◌, ap, subst, append_assoc, append-nil, get_or-set_same, get_or-set_other}
+use Rattle.std.proofs.lemmas.Bool.{false≢true, cases_Bool, cases_eq, cases_lt, or_cases, eqb-true, eq-eqb, and_from, and_parts, lt-ltb, ltb-true, le-leb, leb-true}
+use Rattle.std.proofs.lemmas.List.{length-set, take_more, get_or_past}
 use Rattle.std.proofs.Math.Seq.{take-length}
 use Rattle.tower_syntax.specs.declared.arch.On.{On}
 use Rattle.tower_syntax.specs.declared.arch.On.TheVariants as on
@@ -10,13 +9,13 @@ use Rattle.tower_syntax.specs.declared.arch.Emitter.{Emitter as EmitterValue}
 use Rattle.tower_syntax.specs.declared.arch.Handler.{Handler as HandlerValue}
 use Rattle.tower_syntax.specs.Arch.{Arch, Emitter}
 use Rattle.tower_syntax.specs.View.{emitter_of, handler_of}
-use Rattle.tower_syntax.specs.Graph.{handler, leads, same_on, handler_numbers}
+use Rattle.tower_syntax.specs.Graph.{handler, leads, same_on}
 use Rattle.tower_syntax.specs.WellNumbered.{AreListeners, IsNumberedHandler}
 use Rattle.channel_graph.specs.declared.ranking.Nearest.{Nearest}
 use Rattle.channel_graph.specs.Reaching.{is_on, IsWithin}
-use Rattle.channel_graph.specs.Circuit.{near, leads_near, nearer, walk, walk_round}
-use Rattle.channel_graph.specs.Ranked.{rank, is_near, AreRanked, least_ranked}
-use Rattle.channel_graph.specs.Ranking.{no_nearest, nearest_at, ranked_at, IsNoFarther, IsNearer, AddsAt, AddsNearest, IsOnChannel, AreNearest, IsAhead, LeadsNearer, IsRanked, IsRanking}
+use Rattle.channel_graph.specs.Circuit.{leads_near, nearer, walk, walk_round}
+use Rattle.channel_graph.specs.Ranked.{rank, is_near, AreRanked}
+use Rattle.channel_graph.specs.Ranking.{no_nearest, nearest_at, ranked_at, IsNoFarther, IsNearer, AddsNearest, IsOnChannel, AreNearest, IsAhead, IsRanked, IsRanking}
 use Rattle.channel_graph.proofs.Members.{In, has_any, contains_from_In}
 use Rattle.channel_graph.proofs.Linked.{link_of, of_link}
 use Rattle.channel_graph.proofs.Searched.{handler_read}

@@ -1,5 +1,6 @@
 //! Levels of the nodes of a graph: nodes that lead to each other have one level, and a node that leads to others has
-//! no higher one. Two searches find them, each in time that is linear in the links.
+//! no higher one. Two searches find them, each in time that is linear in the links. And how many links lead from each
+//! node to one of them.
 
 ghost use Rattle.std.specs.Prelude.{◌≡◌, length, IfOk, OnOk};
 

@@ -1,4 +1,4 @@
-use Rattle.std.proofs.Common.{◌≡◌, ◌<◌, length, arith, subst}
+use Rattle.std.proofs.Common.{◌≡◌, length, arith, subst}
 use Rattle.channel_graph.specs.Ranking.{IsNearer, nearest_at}
 use Rattle.channel_graph.proofs.Led.{channel_below}
 use Rattle.channel_graph.proofs.Ahead.{first_more, ahead_of}

@@ -1,9 +1,8 @@
-use Rattle.std.proofs.Common.{◌<◌, length, arith, ap, sym, subst}
+use Rattle.std.proofs.Common.{◌<◌, length, arith, ap, sym}
 use Rattle.std.proofs.lemmas.List.{length-map}
 use Rattle.tower_syntax.specs.View.{handler_of}
 use Rattle.tower_syntax.specs.WellNumbered.{IsNumberedHandler}
 use Rattle.tower_syntax.proofs.Elements.{kept}
-use Rattle.channel_graph.specs.Ranking.{AreNearest}
 use Rattle.channel_graph.proofs.Searched.{handler_at, within_on}
 use Rattle.channel_graph.proofs.Ahead.{nearest_more}
 use Rattle.channel_graph.proofs.ranking.nearest_on.Goals as goal

@@ -1,4 +1,4 @@
-use Rattle.std.proofs.Common.{◌<◌, ◌≡◌, ◌∷◌, [], ◌++◌, ◌∙◌, length, arith, ap}
+use Rattle.std.proofs.Common.{◌<◌, ◌≡◌, ◌∷◌, [], ◌++◌, ◌∙◌, arith, ap}
 use Rattle.channel_graph.specs.Ranked.{rank}
 use Rattle.channel_graph.proofs.Linked.{link_of}
 use Rattle.channel_graph.proofs.Ahead.{ahead_none, ahead_begins, ahead_rank, ahead_goes, ahead_ends}
