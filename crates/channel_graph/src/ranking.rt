@@ -1,10 +1,10 @@
-//! How many links lead from each handler to one of them, and the walk round that they show. A search back along links
-//! finds the ranks, and nothing is proved of it: what it finds is looked over once, each handler with its emitters.
+//! The rank of each handler, 1 more than the fewest links that lead from it to handler `h`, or 0 where none do, and the
+//! walk round that ranks show. A search back along links finds them, and nothing is proved of it: what it finds is
+//! looked over once, each handler with its emitters.
 
-ghost use Rattle.std.specs.Prelude.{◌≡◌, ◌<◌, List, ℕ, length, true, Some, IfOk};
+ghost use Rattle.std.specs.Prelude.{◌≡◌, ◌<◌, List, ℕ, length, true, IfOk};
 ghost use Rattle.tower_syntax.specs.WellNumbered.{AreListeners};
 ghost use Rattle.channel_graph.specs.Circuit.{walk_round};
-ghost use Rattle.channel_graph.specs.Ranked.{rank};
 ghost use Rattle.channel_graph.specs.Reaching.{IsWithin};
 ghost use Rattle.channel_graph.specs.Ranking.{IsNearer, AddsNearest, AreNearest, IsAhead, IsRanked, IsRanking};
 
@@ -14,14 +14,14 @@ use std::alloc::Global;
 use tower_syntax::{Arch, On};
 use tower_types::NoMemory;
 
-/// The least of some ranks above 0, and the least handler that has it. A rank of 0 is none.
+/// Of some handlers, the least rank above 0 and the least handler that has it. Rank 0 stands for none.
 #[derive(Clone, Copy, Debug)]
 pub(crate) struct Nearest {
     rank: u64,
     handler: u32,
 }
 
-/// None of no handlers.
+/// That of no handlers.
 const NONE: Nearest = Nearest {
     rank: 0,
     handler: 0,
@@ -89,7 +89,8 @@ fn ahead(arch: &Arch, nearest: &[Nearest], k: u32) -> Nearest
     best
 }
 
-/// Whether the rank of handler `k` follows from those of the handlers that it leads to. That of `h` is 1.
+/// Whether the rank of handler `k` is 1 more than the least above 0 of those that it leads to, and 0 where there is
+/// none. That of `h` is to be 1.
 fn is_ranked(arch: &Arch, ranks: &[u64], nearest: &[Nearest], h: u32, k: u32) -> bool
     requires ranks { length ranks.now ≡ length arch.now.handlers }
     requires nearest { AreNearest arch.now ranks.now (length arch.now.handlers) nearest.now }
@@ -155,8 +156,8 @@ pub(crate) fn way_ahead(
     Ok(Some(way))
 }
 
-/// For each of so many handlers its rank, as a search back from `h` finds it. Two links between nodes are one between
-/// handlers.
+/// The rank of each of so many handlers, as a search finds it. `back` has for each node those that lead to it, and two
+/// links between nodes are one between handlers.
 pub(crate) fn search_ranks(
     alloc: Global,
     back: &[Items<usize>],
