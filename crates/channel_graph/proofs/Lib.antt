@@ -29,3 +29,4 @@ pub mod Sounded
 pub mod Settling
 pub mod Firsts
 pub mod ShownWalk
+pub mod Ahead

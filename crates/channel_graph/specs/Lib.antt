@@ -3,6 +3,7 @@ pub mod Reaching
 pub mod Circuit
 pub mod Worked
 pub mod Ranked
+pub mod Ranking
 pub mod Settled
 pub mod Levels
 pub mod Over

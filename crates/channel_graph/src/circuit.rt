@@ -12,6 +12,7 @@ ghost use Rattle.channel_graph.specs.Ranked.{AreRanked, AreLoud, is_loud, MarksC
 use crate::levels::{behind_next, levels};
 use crate::links::Links;
 use crate::looping::looping;
+use crate::ranking::{is_ranking, nearest_on, search_ranks, way_ahead};
 use crate::reach::{Start, audiences, reach_from};
 use crate::settled::{clear_sources, settled};
 use sqlite_items::Items;
@@ -151,8 +152,8 @@ fn walk_back(
     Ok(way)
 }
 
-/// The walk from `h` back to itself, if there is one.
-fn way_round(alloc: Global, arch: &Arch, h: u32) -> Result<Option<Items<u32>>, NoMemory>
+/// The walk from `h` back to itself, if there is one: found round by round, where no ranks are known.
+fn way_by_rounds(alloc: Global, arch: &Arch, h: u32) -> Result<Option<Items<u32>>, NoMemory>
     requires { h < length arch.now.handlers }
     ensures { IfOk result (λ way. way ≡ walk_round arch.now h) }
 {
@@ -172,10 +173,30 @@ fn way_round(alloc: Global, arch: &Arch, h: u32) -> Result<Option<Items<u32>>, N
     Ok(None)
 }
 
+/// The walk from `h` back to itself, if there is one. `back` has for each node those that lead to it.
+fn way_round(
+    alloc: Global,
+    arch: &Arch,
+    back: &[Items<usize>],
+    h: u32,
+) -> Result<Option<Items<u32>>, NoMemory>
+    requires { h < length arch.now.handlers }
+    ensures { IfOk result (λ way. way ≡ walk_round arch.now h) }
+{
+    let ranks = search_ranks(alloc, back, arch.handlers().len(), h)?;
+    let nearest = nearest_on(alloc, arch, ranks.as_slice())?;
+    if is_ranking(arch, ranks.as_slice(), nearest.as_slice(), h) {
+        way_ahead(alloc, arch, ranks.as_slice(), nearest.as_slice(), h)
+    } else {
+        way_by_rounds(alloc, arch, h)
+    }
+}
+
 /// The walk round from the first of the marked handlers that leads back to itself.
 fn first_round(
     alloc: Global,
     arch: &Arch,
+    back: &[Items<usize>],
     marks: &[bool],
     looping: &[bool],
 ) -> Result<Option<Items<u32>>, NoMemory>
@@ -186,7 +207,7 @@ fn first_round(
 {
     for k in 0..arch.handlers().len() {
         if marks[k] && looping[k] {
-            if let Some(way) = way_round(alloc, arch, k as u32)? {
+            if let Some(way) = way_round(alloc, arch, back, k as u32)? {
                 return Ok(Some(way));
             }
         }
@@ -198,6 +219,7 @@ fn first_round(
 fn cycle_of(
     alloc: Global,
     arch: &Arch,
+    back: &[Items<usize>],
     heard: &[Items<u32>],
     looping: &[bool],
     clear: &[bool],
@@ -214,7 +236,7 @@ fn cycle_of(
         return Ok(None);
     }
     let marks = reach_from(alloc, arch, heard, Start::Source(source))?;
-    match first_round(alloc, arch, marks.as_slice(), looping)? {
+    match first_round(alloc, arch, back, marks.as_slice(), looping)? {
         Some(walk) => Ok(Some(CycleFound { source, walk })),
         None => Ok(None),
     }
@@ -237,6 +259,7 @@ pub fn cycle(alloc: Global, arch: &Arch) -> Result<Option<CycleFound>, NoMemory>
         let found = cycle_of(
             alloc,
             arch,
+            links.back.as_slice(),
             heard.as_slice(),
             loops.as_slice(),
             clear.as_slice(),

@@ -1,5 +1,6 @@
 //! Levels of the nodes of a graph: nodes that lead to each other have one level, and a node that leads to others has
-//! no higher one. Two searches find them, each in time that is linear in the links.
+//! no higher one. Two searches find them, each in time that is linear in the links. And how many links lead from each
+//! node to one of them.
 
 ghost use Rattle.std.specs.Prelude.{◌≡◌, length, IfOk, OnOk};
 
@@ -136,6 +137,23 @@ impl Flood {
         }
         Ok(())
     }
+
+    /// Gives a level to each node that leads to one with a level: one more than the least level that it leads to.
+    fn climb(&mut self, back: &[Items<usize>]) -> Result<(), NoMemory>
+        ensures { OnOk result (length self.new.levels ≡ length self.old.levels) }
+    {
+        for at in 0..back.len() {
+            if at >= self.order.len() {
+                return Ok(());
+            }
+            let here = self.order.as_slice()[at];
+            if here < back.len() && here < self.levels.len() {
+                let level = self.levels.as_slice()[here].saturating_add(1);
+                self.enter_all(back[here].as_slice(), level)?;
+            }
+        }
+        Ok(())
+    }
 }
 
 /// A level for each node. `order` has each node behind those to which it leads and which do not lead back to it.
@@ -154,6 +172,24 @@ pub(crate) fn levels(
         let last = order.len() - 1 - passed;
         flood.rise(back, order[last], passed as u64 + 1)?;
     }
+    let Flood { levels, order: _ } = flood;
+    Ok(levels)
+}
+
+/// For each node 1 more than the fewest links that lead from it to this one, and 0 where none do.
+pub(crate) fn distances(
+    alloc: Global,
+    back: &[Items<usize>],
+    node: usize,
+) -> Result<Items<u64>, NoMemory>
+    ensures { IfOk result (λ levels. length levels ≡ length back.now) }
+{
+    let mut flood = Flood {
+        levels: Items::from_vec(vec![in alloc; 0u64; back.len()]?),
+        order: Items::new(alloc),
+    };
+    flood.enter(node, 1)?;
+    flood.climb(back)?;
     let Flood { levels, order: _ } = flood;
     Ok(levels)
 }

@@ -17,6 +17,7 @@ mod listening;
 mod longest;
 mod looping;
 mod marked;
+mod ranking;
 mod reach;
 mod rough;
 mod scope;

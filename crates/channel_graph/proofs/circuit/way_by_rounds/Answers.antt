@@ -4,7 +4,7 @@ use Rattle.tower_syntax.specs.View.{handler_of}
 use Rattle.channel_graph.specs.Circuit.{leads_near}
 use Rattle.channel_graph.specs.Ranked.{is_loud, AreLoud, Widens}
 use Rattle.channel_graph.proofs.Rounds.{loud_near, ranked_more, found_round, none_round, ended_round}
-use Rattle.channel_graph.proofs.circuit.way_round.Goals as goal
+use Rattle.channel_graph.proofs.circuit.way_by_rounds.Goals as goal
 
 pub returns-then-is_heard : goal.returns-then-is_heard
 returns-then-is_heard c =

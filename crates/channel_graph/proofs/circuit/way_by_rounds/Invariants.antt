@@ -1,7 +1,7 @@
 use Rattle.std.proofs.Common.{◌≡◌, ◌<◌, ℕ, false}
 use Rattle.channel_graph.specs.Circuit.{leads_near}
 use Rattle.channel_graph.specs.Ranked.{AreRanked}
-use Rattle.channel_graph.proofs.circuit.way_round.Given as goal
+use Rattle.channel_graph.proofs.circuit.way_by_rounds.Given as goal
 
 abbrev pub invariant-loop-n : goal.invariant-loop-n
 invariant-loop-n l =
