@@ -2,7 +2,6 @@
 ghost use Rattle.std.specs.Prelude.{◌≡◌, ◌⊎◌, ℕ, map, OnOk, IfOk, IfErr};
 ghost use Rattle.tower_syntax.specs.RawView.{id_of};
 ghost use Rattle.tower_syntax.specs.NamedView.{link_of, all_named_stmts_of, named_hpart_of, named_part_of, named_item_of, named_of};
-ghost use Rattle.tower_types.specs.View.{ty_of};
 ghost use Rattle.tower_syntax.specs.View.{arch_of, body_of, handler_of, emitter_of};
 ghost use Rattle.tower_syntax.specs.Typed.{IsTyped};
 ghost use Rattle.arch_types.specs.Offence.{IsClean, IsFirst};
@@ -10,7 +9,7 @@ ghost use Rattle.arch_types.specs.Outline.{each, written_of, Written, callback_o
 ghost use Rattle.arch_types.specs.File.{IsChecked, Offence, AscendsFile, message_on};
 ghost use Rattle.arch_types.specs.Numbered.{IsNumbered};
 ghost use Rattle.arch_types.specs.Walk.{Gives};
-ghost use Rattle.arch_types.specs.Seen.{known_at_entry};
+ghost use Rattle.arch_types.specs.Seen.{known_at_entry, type_in};
 ghost use Rattle.arch_types.specs.Turns.{in_turn, Went, Stops, bodied, handled, WentItem, StopsItem};
 ghost use Rattle.arch_types.specs.declared.fault.TypeFault.TheVariants as fault;
 
@@ -87,18 +86,18 @@ fn check_bodies(
     Ok(made)
 }
 
-fn scope_of(
+fn scope_of<'a>(
     alloc: Global,
-    system: &ArchParts,
+    system: &'a ArchParts,
     monitor: u32,
     on: &Link,
     parts: &[NamedHpart],
-) -> Result<Scope, NoMemory>
+) -> Result<Scope<'a>, NoMemory>
     ensures monitor { IfOk result (λ scope. scope.monitor ≡ monitor) }
-    ensures message { IfOk result (λ scope. ty_of scope.message ≡ message_on (arch_of system.now) (on_of on.now.target)) }
+    ensures message { IfOk result (λ scope. type_in scope.message ≡ message_on (arch_of system.now) (on_of on.now.target)) }
     ensures emitters { IfOk result (λ scope. map emitter_of scope.emitters ≡ each emitter_in (map named_hpart_of parts.now)) }
 {
-    let message = message_on(alloc, system, on_of(on.target))?;
+    let message = message_on(system, on_of(on.target));
     let emitters = emitters(alloc, parts)?;
     Ok(Scope {
         monitor,

@@ -2,9 +2,10 @@
 ghost use Rattle.std.specs.Prelude.{◌≡◌};
 ghost use Rattle.tower_syntax.specs.NamedView.{named_place_of, named_expr_of};
 ghost use Rattle.arch_types.specs.Walk.{Gives, typed_place, typed};
-ghost use Rattle.arch_types.specs.Seen.{known, expr_in, place_in};
+ghost use Rattle.arch_types.specs.Seen.{known, expr_in, place_in, kept_in};
 
 use crate::fault::TypeFault;
+use crate::lent::TypeRef;
 use crate::rows::{
     TypedExpr, TypedPlace, bin_row, cast_row, choose_row, get_row, index_row, literal, read_row,
     un_row,
@@ -15,20 +16,27 @@ use std::alloc::Global;
 use tower_syntax::{ArchParts, Expr, NamedExpr, NamedPlace};
 use tower_types::{Scalar, Ty};
 
+/// An expression of the checked tree with a type that lends nothing.
+#[derive(Drop)]
+pub struct KeptExpr {
+    pub tree: Expr,
+    pub ty: Ty,
+}
+
 #[cycle(exprs)]
-pub fn check_place(
+pub fn check_place<'a>(
     alloc: Global,
-    system: &ArchParts,
-    scope: &Scope,
-    bound: &Bound,
+    system: &'a ArchParts,
+    scope: &Scope<'a>,
+    bound: &'a Bound,
     place: &NamedPlace,
-) -> Result<TypedPlace, TypeFault>
+) -> Result<TypedPlace<'a>, TypeFault>
     ensures { Gives place_in (typed_place (known system.now scope.now bound.now) (named_place_of place.now)) result }
 {
     let names = system.record_names.as_slice();
     match place {
         NamedPlace::Root(link) => {
-            let ty = name_type(alloc, system, scope, bound, link.target)?;
+            let ty = name_type(system, scope, bound, link.target);
             let root = root_at(link.target);
             let steps = Items::new(alloc);
             Ok(TypedPlace { root, steps, ty })
@@ -55,20 +63,20 @@ pub fn check_place(
 }
 
 #[cycle(exprs)]
-pub fn check_expr(
+pub fn check_expr<'a>(
     alloc: Global,
-    system: &ArchParts,
-    scope: &Scope,
-    bound: &Bound,
+    system: &'a ArchParts,
+    scope: &Scope<'a>,
+    bound: &'a Bound,
     expr: &NamedExpr,
-) -> Result<TypedExpr, TypeFault>
+) -> Result<TypedExpr<'a>, TypeFault>
     ensures { Gives expr_in (typed (known system.now scope.now bound.now) (named_expr_of expr.now)) result }
 {
     let names = system.record_names.as_slice();
     match expr {
         NamedExpr::Truth { yes, .. } => Ok(TypedExpr {
             tree: Expr::Lit(Scalar::Bool, i128::from(*yes)),
-            ty: Ty::Scalar(Scalar::Bool),
+            ty: TypeRef::Scalar(Scalar::Bool),
         }),
         NamedExpr::Read(place) => {
             let read = check_place(alloc, system, scope, bound, place)?;
@@ -103,8 +111,23 @@ pub fn check_expr(
         NamedExpr::Cast { ty, a, .. } => {
             let to = type_of(alloc, ty)?;
             let x = check_expr(alloc, system, scope, bound, a.get())?;
-            let made = cast_row(alloc, names, ty.at(), to, a.get().at(), x)?;
+            let made = cast_row(alloc, names, ty.at(), TypeRef::of(&to), a.get().at(), x)?;
             Ok(made)
         }
     }
+}
+
+/// An expression behind which names may be bound.
+pub fn keep_expr(
+    alloc: Global,
+    system: &ArchParts,
+    scope: &Scope,
+    bound: &Bound,
+    expr: &NamedExpr,
+) -> Result<KeptExpr, TypeFault>
+    ensures { Gives kept_in (typed (known system.now scope.now bound.now) (named_expr_of expr.now)) result }
+{
+    let TypedExpr { tree, ty } = check_expr(alloc, system, scope, bound, expr)?;
+    let ty = ty.copy(alloc)?;
+    Ok(KeptExpr { tree, ty })
 }

@@ -7,6 +7,7 @@ mod fault;
 mod heights;
 mod high;
 mod laws;
+mod lent;
 mod listeners;
 mod outline;
 mod rows;

@@ -10,12 +10,13 @@ ghost use Rattle.arch_types.specs.Body.{emitter_number, base, if_writable};
 ghost use Rattle.tower_syntax.specs.Offset.{link_offset, place_offset};
 ghost use Rattle.arch_types.specs.Typing.{type_of};
 ghost use Rattle.arch_types.specs.Walk.{Gives, Passes, set_row, copy_row, branch_row, loop_row, write_misfit, walked, walked_all, may_write_among};
-ghost use Rattle.arch_types.specs.Seen.{known, expr_in, place_in, stmt_in, stmts_in};
+ghost use Rattle.arch_types.specs.Seen.{known, expr_in, kept_in, place_in, stmt_in, stmts_in};
 ghost use Rattle.arch_types.specs.declared.fault.TypeFault.TheVariants.{NoMemory};
 
-use crate::exprs::{check_expr, check_place};
+use crate::exprs::{KeptExpr, check_expr, check_place, keep_expr};
 use crate::fault::TypeFault;
 use crate::high::{High, earlier, first_high, high_expr, high_place};
+use crate::lent::TypeRef;
 use crate::rows::{TypedExpr, TypedPlace};
 use crate::scope::{Bound, Scope, base, emitter_message, type_of, writable};
 use crate::wanted::{Asked, ask, ask_same};
@@ -72,13 +73,13 @@ fn check_let(
 ) -> Result<Checked, TypeFault>
     ensures { Gives (λ c. stmt_in c bound.new) (walked (known system.now scope.now bound.old) (bind 0 (id_of name.now) (named_expr_of value.now))) result }
 {
-    let typed = check_expr(alloc, system, scope, bound, value)?;
+    let typed = keep_expr(alloc, system, scope, bound, value)?;
     ask(
         alloc,
         system.record_names.as_slice(),
         value.at(),
         Asked::Scalar,
-        &typed.ty,
+        TypeRef::of(&typed.ty),
     )?;
     let number = bind(alloc, bound, name, typed.ty, false)?;
     Ok(Checked {
@@ -125,13 +126,13 @@ fn set_row(
     to: TypedPlace,
     from: TypedExpr,
 ) -> Result<Checked, TypeFault>
-    ensures { Gives (λ c. stmt_in c bound.now) (set_row (known system.now scope.now bound.now) (named_place_of place.now) (named_expr_of value.now) (place_in to) (expr_in from)) result }
+    ensures { Gives (λ c. stmt_in c bound.now) (set_row (known system.now scope.now bound.now) (named_place_of place.now) (named_expr_of value.now) (place_in to.entry) (expr_in from.entry)) result }
 {
     let names = system.record_names.as_slice();
     ask_writable(bound, place)?;
-    ask(alloc, names, place.at(), Asked::Scalar, &to.ty)?;
+    ask(alloc, names, place.at(), Asked::Scalar, to.ty)?;
     let high = high_place(place);
-    match ask_same(alloc, names, value.at(), &to.ty, &from.ty) {
+    match ask_same(alloc, names, value.at(), to.ty, from.ty) {
         Ok(()) => {
             let next = high_expr(value);
             let place = to.place();
@@ -175,7 +176,7 @@ fn copy_row(
     to: TypedPlace,
     from: TypedPlace,
 ) -> Result<Checked, TypeFault>
-    ensures { Gives (λ c. stmt_in c bound.now) (copy_row (known system.now scope.now bound.now) (named_place_of place.now) (named_place_of value.now) (place_in to) (place_in from)) result }
+    ensures { Gives (λ c. stmt_in c bound.now) (copy_row (known system.now scope.now bound.now) (named_place_of place.now) (named_place_of value.now) (place_in to.entry) (place_in from.entry)) result }
 {
     ask_writable(bound, place)?;
     let high = high_place(place);
@@ -183,8 +184,8 @@ fn copy_row(
         alloc,
         system.record_names.as_slice(),
         value.at(),
-        &to.ty,
-        &from.ty,
+        to.ty,
+        from.ty,
     ) {
         Ok(()) => {
             let next = high_place(value);
@@ -241,13 +242,13 @@ fn check_emit(
 {
     let typed = check_expr(alloc, system, scope, bound, value)?;
     let k = emitter_number(emitter.target);
-    let message = emitter_message(alloc, system, scope, k)?;
+    let message = emitter_message(system, scope, k);
     ask_same(
         alloc,
         system.record_names.as_slice(),
         value.at(),
-        &message,
-        &typed.ty,
+        message,
+        typed.ty,
     )?;
     Ok(Checked {
         tree: Stmt::Emit(k, typed.tree),
@@ -261,14 +262,14 @@ fn branch_row(
     names: &[Name],
     bound: &Bound,
     test: &NamedExpr,
-    typed: TypedExpr,
+    typed: KeptExpr,
     high: Option<High>,
     left: Items<Stmt>,
     right: AllChecked,
 ) -> Result<Checked, TypeFault>
-    ensures { Gives (λ c. stmt_in c bound.now) (branch_row names.now (named_expr_of test.now) (expr_in typed) high (map stmt_of left) (stmts_in right bound.now)) result }
+    ensures { Gives (λ c. stmt_in c bound.now) (branch_row names.now (named_expr_of test.now) (kept_in typed) high (map stmt_of left) (stmts_in right bound.now)) result }
 {
-    ask(alloc, names, test.at(), Asked::Truth, &typed.ty)?;
+    ask(alloc, names, test.at(), Asked::Truth, TypeRef::of(&typed.ty))?;
     Ok(Checked {
         tree: Stmt::Branch(typed.tree, left, right.trees),
         high: first_high(high, right.high),
@@ -304,7 +305,7 @@ fn check_stmt(
         }
         NamedStmt::Branch { test, yes, no, .. } => {
             let names = system.record_names.as_slice();
-            let typed = check_expr(alloc, system, scope, bound, test)?;
+            let typed = keep_expr(alloc, system, scope, bound, test)?;
             let high = high_expr(test);
             let left = match check_stmts(alloc, system, scope, bound, yes.as_slice()) {
                 Ok(left) => left,
