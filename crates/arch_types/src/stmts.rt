@@ -269,7 +269,13 @@ fn branch_row(
 ) -> Result<Checked, TypeFault>
     ensures { Gives (λ c. stmt_in c bound.now) (branch_row names.now (named_expr_of test.now) (kept_in typed) high (map stmt_of left) (stmts_in right bound.now)) result }
 {
-    ask(alloc, names, test.at(), Asked::Truth, TypeRef::of(&typed.ty))?;
+    ask(
+        alloc,
+        names,
+        test.at(),
+        Asked::Truth,
+        TypeRef::of(&typed.ty),
+    )?;
     Ok(Checked {
         tree: Stmt::Branch(typed.tree, left, right.trees),
         high: first_high(high, right.high),
