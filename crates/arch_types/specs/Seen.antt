@@ -7,6 +7,7 @@ use Rattle.tower_syntax.specs.View.{arch_of, emitter_of, expr_of, stmt_of, Step,
 use Rattle.tower_syntax.specs.Tree.{Expr, Place}
 use Rattle.tower_syntax.specs.declared.body.PlaceStep.{PlaceStep as StepValue}
 use Rattle.tower_syntax.specs.declared.body.Expr.TheFolds.{fold-PlaceStep}
+use Rattle.tower_syntax.specs.Arch.{Arch}
 use Rattle.tower_syntax.specs.Weights.{states_of}
 use Rattle.tower_syntax.specs.declared.arch.ArchParts.{ArchParts}
 use Rattle.arch_types.specs.declared.scope.Scope.{Scope}
@@ -40,13 +41,13 @@ type_in (lent.Rec r) = rec r
 abbrev pub states_in : ArchParts → ℕ → Fields
 states_in system m = states_of (arch_of system) m
 
-abbrev pub known : ArchParts → Scope → Bound → Known
+abbrev pub known : Arch → Scope → Bound → Known
 known system scope bound = record {
   names = system.record_names;
   records = system.records;
   message = type_in scope.message;
-  states = states_in system scope.monitor;
-  emitters = messages (arch_of system) (map emitter_of scope.emitters);
+  states = states_of system scope.monitor;
+  emitters = messages system (map emitter_of scope.emitters);
   binders = fields_of bound.names;
   writable = bound.writable;
 }
@@ -73,13 +74,13 @@ abbrev pub stmts_in : AllCheckedValue → Bound → AllWalked
 stmts_in c bound = record { high = c.high; trees = map stmt_of c.trees; binders = fields_of bound.names; writable = bound.writable }
 
 -- where no name is bound yet
-abbrev pub known_at_entry : ArchParts → Scope → Known
+abbrev pub known_at_entry : Arch → Scope → Known
 known_at_entry system scope = record {
   names = system.record_names;
   records = system.records;
   message = type_in scope.message;
-  states = states_in system scope.monitor;
-  emitters = messages (arch_of system) (map emitter_of scope.emitters);
+  states = states_of system scope.monitor;
+  emitters = messages system (map emitter_of scope.emitters);
   binders = [];
   writable = [];
 }

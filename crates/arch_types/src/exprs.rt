@@ -11,9 +11,10 @@ use crate::rows::{
     un_row,
 };
 use crate::scope::{Bound, Scope, name_type, root_at, type_of};
+use crate::system::System;
 use sqlite_items::Items;
 use std::alloc::Global;
-use tower_syntax::{ArchParts, Expr, NamedExpr, NamedPlace};
+use tower_syntax::{Expr, NamedExpr, NamedPlace};
 use tower_types::{Scalar, Ty};
 
 /// An expression of the checked tree with a type that lends nothing.
@@ -26,24 +27,25 @@ pub struct KeptExpr {
 #[cycle(exprs)]
 pub fn check_place<'a>(
     alloc: Global,
-    system: &'a ArchParts,
+    system: &System<'a>,
     scope: &Scope<'a>,
     bound: &'a Bound,
     place: &NamedPlace,
 ) -> Result<TypedPlace<'a>, TypeFault>
     ensures { Gives place_in (typed_place (known system.now scope.now bound.now) (named_place_of place.now)) result }
 {
-    let names = system.record_names.as_slice();
+    let parts = system.parts();
+    let names = parts.record_names.as_slice();
     match place {
         NamedPlace::Root(link) => {
-            let ty = name_type(system, scope, bound, link.target);
+            let ty = name_type(parts, scope, bound, link.target);
             let root = root_at(link.target);
             let steps = Items::new(alloc);
             Ok(TypedPlace { root, steps, ty })
         }
         NamedPlace::Get { base, field, .. } => {
             let whole = check_place(alloc, system, scope, bound, base.get())?;
-            let part = get_row(alloc, names, &system.records, base.get().at(), whole, field)?;
+            let part = get_row(alloc, system, base.get().at(), whole, field)?;
             Ok(part)
         }
         NamedPlace::At { base, index, .. } => {
@@ -65,14 +67,14 @@ pub fn check_place<'a>(
 #[cycle(exprs)]
 pub fn check_expr<'a>(
     alloc: Global,
-    system: &'a ArchParts,
+    system: &System<'a>,
     scope: &Scope<'a>,
     bound: &'a Bound,
     expr: &NamedExpr,
 ) -> Result<TypedExpr<'a>, TypeFault>
     ensures { Gives expr_in (typed (known system.now scope.now bound.now) (named_expr_of expr.now)) result }
 {
-    let names = system.record_names.as_slice();
+    let names = system.parts().record_names.as_slice();
     match expr {
         NamedExpr::Truth { yes, .. } => Ok(TypedExpr {
             tree: Expr::Lit(Scalar::Bool, i128::from(*yes)),
@@ -120,7 +122,7 @@ pub fn check_expr<'a>(
 /// An expression behind which names may be bound.
 pub fn keep_expr(
     alloc: Global,
-    system: &ArchParts,
+    system: &System,
     scope: &Scope,
     bound: &Bound,
     expr: &NamedExpr,

@@ -13,6 +13,7 @@ mod outline;
 mod rows;
 mod scope;
 mod stmts;
+mod system;
 mod text;
 mod wanted;
 

@@ -1,19 +1,19 @@
 //! The rows of the type table: a node by its children, whose types are known.
 ghost use Rattle.std.specs.Prelude.{◌≡◌};
-ghost use Rattle.tower_types.specs.View.{ty_of, fields_of};
 ghost use Rattle.tower_syntax.specs.RawView.{id_of};
 ghost use Rattle.tower_syntax.specs.View.{place_of};
-ghost use Rattle.arch_types.specs.Typing.{field_in, field_of, place_from};
+ghost use Rattle.arch_types.specs.Typing.{place_from};
 ghost use Rattle.arch_types.specs.Walk.{Gives, literal, read_row, un_row, bin_row, choose_row, cast_row, field_found, field_of_type, get_row, index_fits, index_row, Passes};
 ghost use Rattle.arch_types.specs.Seen.{expr_in, place_in, type_in};
 
 use crate::fault::TypeFault;
 use crate::lent::TypeRef;
+use crate::system::System;
 use crate::wanted::{Asked, ask, ask_same, only_operand, operand};
 use sqlite_items::{Boxed, Items};
 use std::alloc::Global;
 use tower_syntax::{Expr, Id, Place, PlaceStep, Root};
-use tower_types::{BinOp, Name, Records, Scalar, Ty, UnOp, binary_scalar, fits_scalar};
+use tower_types::{BinOp, Name, Scalar, UnOp, binary_scalar, fits_scalar};
 
 /// An expression of the checked tree with its type.
 #[derive(Drop)]
@@ -156,48 +156,19 @@ pub fn cast_row<'a>(
     })
 }
 
-/// The place of a field among these, and its type.
-fn field_in<'a>(fields: &'a [(Name, Ty)], field: &Id) -> Result<(u32, TypeRef<'a>), TypeFault>
-    ensures { Gives (λ f. (f.0, type_in f.1)) (field_found field.now.at (field_in (fields_of fields.now) field.now.name)) result }
-{
-    let mut k: u32 = 0;
-    for (name, ty) in fields {
-        if name.same(&field.name) {
-            return Ok((k, TypeRef::of(ty)));
-        }
-        let Some(next) = k.checked_add(1) else {
-            return Err(TypeFault::NoMemory);
-        };
-        k = next;
-    }
-    Err(TypeFault::Field { at: field.at })
-}
-
-/// A field of a record, with its place.
-fn field_of<'a>(records: &'a Records, r: u32, field: &Id) -> Result<(u32, TypeRef<'a>), TypeFault>
-    ensures { Gives (λ f. (f.0, type_in f.1)) (field_found field.now.at (field_of records.now r field.now.name)) result }
-{
-    if (r as usize) < records.len() {
-        let found = field_in(records.fields(r), field)?;
-        Ok(found)
-    } else {
-        Err(TypeFault::Field { at: field.at })
-    }
-}
-
-/// A field of a value of this type, with its place.
+/// The first field of a name in a value of this type, with its place.
 fn field_of_type<'a>(
-    records: &'a Records,
+    system: &System<'a>,
     ty: TypeRef,
     field: &Id,
 ) -> Result<(u32, TypeRef<'a>), TypeFault>
-    ensures { Gives (λ f. (f.0, type_in f.1)) (field_found field.now.at (field_of_type records.now (type_in ty.entry) field.now.name)) result }
+    ensures { Gives (λ f. (f.0, type_in f.1)) (field_found field.now.at (field_of_type system.now.records (type_in ty.entry) field.now.name)) result }
 {
     match ty {
-        TypeRef::Rec(r) => {
-            let found = field_of(records, r, field)?;
-            Ok(found)
-        }
+        TypeRef::Rec(r) => match system.field(r, &field.name) {
+            Some(found) => Ok(found),
+            None => Err(TypeFault::Field { at: field.at }),
+        },
         _ => Err(TypeFault::Field { at: field.at }),
     }
 }
@@ -205,16 +176,16 @@ fn field_of_type<'a>(
 /// A field of a place, which stands at an offset.
 pub fn get_row<'a>(
     alloc: Global,
-    names: &[Name],
-    records: &'a Records,
+    system: &System<'a>,
     at: u32,
     base: TypedPlace,
     field: &Id,
 ) -> Result<TypedPlace<'a>, TypeFault>
-    ensures { Gives place_in (get_row names.now records.now at (place_in base.entry) (id_of field.now)) result }
+    ensures { Gives place_in (get_row system.now.record_names system.now.records at (place_in base.entry) (id_of field.now)) result }
 {
+    let names = system.parts().record_names.as_slice();
     ask(alloc, names, at, Asked::Record, base.ty)?;
-    let (k, ty) = field_of_type(records, base.ty, field)?;
+    let (k, ty) = field_of_type(system, base.ty, field)?;
     let TypedPlace {
         root,
         mut steps,

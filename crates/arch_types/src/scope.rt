@@ -79,7 +79,7 @@ pub fn name_type<'a>(
     bound: &'a Bound,
     target: Target,
 ) -> TypeRef<'a>
-    ensures { type_in result ≡ known_type (known system.now scope.now bound.now) target }
+    ensures { type_in result ≡ known_type (known (arch_of system.now) scope.now bound.now) target }
 {
     match target {
         Target::Param => scope.message,

@@ -19,12 +19,11 @@ use crate::high::{High, earlier, first_high, high_expr, high_place};
 use crate::lent::TypeRef;
 use crate::rows::{TypedExpr, TypedPlace};
 use crate::scope::{Bound, Scope, base, emitter_message, type_of, writable};
+use crate::system::System;
 use crate::wanted::{Asked, ask, ask_same};
 use sqlite_items::Items;
 use std::alloc::Global;
-use tower_syntax::{
-    ArchParts, Id, Link, NamedExpr, NamedPlace, NamedStmt, NamedType, Stmt, Target,
-};
+use tower_syntax::{Id, Link, NamedExpr, NamedPlace, NamedStmt, NamedType, Stmt, Target};
 use tower_types::{Name, Scalar, Ty};
 
 /// A statement of the checked tree, and the first of its expressions and places that is too high.
@@ -65,7 +64,7 @@ fn bind(
 
 fn check_let(
     alloc: Global,
-    system: &ArchParts,
+    system: &System,
     scope: &Scope,
     bound: &mut Bound,
     name: &Id,
@@ -74,9 +73,10 @@ fn check_let(
     ensures { Gives (λ c. stmt_in c bound.new) (walked (known system.now scope.now bound.old) (bind 0 (id_of name.now) (named_expr_of value.now))) result }
 {
     let typed = keep_expr(alloc, system, scope, bound, value)?;
+    let names = system.parts().record_names.as_slice();
     ask(
         alloc,
-        system.record_names.as_slice(),
+        names,
         value.at(),
         Asked::Scalar,
         TypeRef::of(&typed.ty),
@@ -90,7 +90,7 @@ fn check_let(
 
 fn check_local(
     alloc: Global,
-    system: &ArchParts,
+    system: &System,
     scope: &Scope,
     bound: &mut Bound,
     name: &Id,
@@ -118,7 +118,7 @@ fn ask_writable(bound: &Bound, place: &NamedPlace) -> Result<(), TypeFault>
 
 fn set_row(
     alloc: Global,
-    system: &ArchParts,
+    system: &System,
     scope: &Scope,
     bound: &Bound,
     place: &NamedPlace,
@@ -128,7 +128,7 @@ fn set_row(
 ) -> Result<Checked, TypeFault>
     ensures { Gives (λ c. stmt_in c bound.now) (set_row (known system.now scope.now bound.now) (named_place_of place.now) (named_expr_of value.now) (place_in to.entry) (expr_in from.entry)) result }
 {
-    let names = system.record_names.as_slice();
+    let names = system.parts().record_names.as_slice();
     ask_writable(bound, place)?;
     ask(alloc, names, place.at(), Asked::Scalar, to.ty)?;
     let high = high_place(place);
@@ -147,7 +147,7 @@ fn set_row(
 
 fn check_set(
     alloc: Global,
-    system: &ArchParts,
+    system: &System,
     scope: &Scope,
     bound: &Bound,
     place: &NamedPlace,
@@ -168,7 +168,7 @@ fn check_set(
 
 fn copy_row(
     alloc: Global,
-    system: &ArchParts,
+    system: &System,
     scope: &Scope,
     bound: &Bound,
     place: &NamedPlace,
@@ -180,13 +180,8 @@ fn copy_row(
 {
     ask_writable(bound, place)?;
     let high = high_place(place);
-    match ask_same(
-        alloc,
-        system.record_names.as_slice(),
-        value.at(),
-        to.ty,
-        from.ty,
-    ) {
+    let names = system.parts().record_names.as_slice();
+    match ask_same(alloc, names, value.at(), to.ty, from.ty) {
         Ok(()) => {
             let next = high_place(value);
             let place = to.place();
@@ -202,7 +197,7 @@ fn copy_row(
 
 fn check_copy(
     alloc: Global,
-    system: &ArchParts,
+    system: &System,
     scope: &Scope,
     bound: &Bound,
     place: &NamedPlace,
@@ -232,7 +227,7 @@ fn emitter_number(target: Target) -> u32
 
 fn check_emit(
     alloc: Global,
-    system: &ArchParts,
+    system: &System,
     scope: &Scope,
     bound: &Bound,
     emitter: &Link,
@@ -242,14 +237,10 @@ fn check_emit(
 {
     let typed = check_expr(alloc, system, scope, bound, value)?;
     let k = emitter_number(emitter.target);
-    let message = emitter_message(system, scope, k);
-    ask_same(
-        alloc,
-        system.record_names.as_slice(),
-        value.at(),
-        message,
-        typed.ty,
-    )?;
+    let parts = system.parts();
+    let names = parts.record_names.as_slice();
+    let message = emitter_message(parts, scope, k);
+    ask_same(alloc, names, value.at(), message, typed.ty)?;
     Ok(Checked {
         tree: Stmt::Emit(k, typed.tree),
         high: high_expr(value),
@@ -285,7 +276,7 @@ fn branch_row(
 #[cycle(stmts)]
 fn check_stmt(
     alloc: Global,
-    system: &ArchParts,
+    system: &System,
     scope: &Scope,
     bound: &mut Bound,
     stmt: &NamedStmt,
@@ -310,7 +301,7 @@ fn check_stmt(
             Ok(made)
         }
         NamedStmt::Branch { test, yes, no, .. } => {
-            let names = system.record_names.as_slice();
+            let names = system.parts().record_names.as_slice();
             let typed = keep_expr(alloc, system, scope, bound, test)?;
             let high = high_expr(test);
             let left = match check_stmts(alloc, system, scope, bound, yes.as_slice()) {
@@ -349,7 +340,7 @@ fn check_stmt(
 #[cycle(stmts)]
 pub fn check_stmts(
     alloc: Global,
-    system: &ArchParts,
+    system: &System,
     scope: &Scope,
     bound: &mut Bound,
     stmts: &[NamedStmt],
