@@ -5,7 +5,7 @@ ghost use Rattle.tower_types.specs.View.{ty_of, fields_of};
 ghost use Rattle.tower_syntax.specs.NamedView.{named_type_of, named_place_of, named_expr_of, named_stmt_of, all_named_stmts_of, link_of};
 ghost use Rattle.tower_syntax.specs.RawView.{id_of};
 ghost use Rattle.tower_syntax.specs.View.{stmt_of};
-ghost use Rattle.tower_syntax.specs.RawTree.{bind, local, set, copy, emit};
+ghost use Rattle.tower_syntax.specs.RawTree.{bind, local, set, copy, branch, loop, emit};
 ghost use Rattle.arch_types.specs.Body.{emitter_number, base, if_writable};
 ghost use Rattle.tower_syntax.specs.Offset.{link_offset, place_offset};
 ghost use Rattle.arch_types.specs.Typing.{type_of};
@@ -273,6 +273,55 @@ fn branch_row(
     })
 }
 
+/// An `if`. What is wrong with its test's type is told behind what is wrong in its branches.
+#[cycle(stmts)]
+fn check_branch(
+    alloc: Global,
+    system: &System,
+    scope: &Scope,
+    bound: &mut Bound,
+    test: &NamedExpr,
+    yes: &[NamedStmt],
+    no: &[NamedStmt],
+) -> Result<Checked, TypeFault>
+    ensures { Gives (λ c. stmt_in c bound.new) (walked (known system.now scope.now bound.old) (branch 0 (named_expr_of test.now) 0 (all_named_stmts_of yes.now) 0 (all_named_stmts_of no.now))) result }
+{
+    let names = system.parts().record_names.as_slice();
+    let typed = keep_expr(alloc, system, scope, bound, test)?;
+    let high = high_expr(test);
+    let left = match check_stmts(alloc, system, scope, bound, yes) {
+        Ok(left) => left,
+        Err(fault) => return Err(earlier(high, fault)),
+    };
+    let high = first_high(high, left.high);
+    let right = match check_stmts(alloc, system, scope, bound, no) {
+        Ok(right) => right,
+        Err(fault) => return Err(earlier(high, fault)),
+    };
+    let made = branch_row(alloc, names, bound, test, typed, high, left.trees, right)?;
+    Ok(made)
+}
+
+#[cycle(stmts)]
+fn check_loop(
+    alloc: Global,
+    system: &System,
+    scope: &Scope,
+    bound: &mut Bound,
+    name: &Id,
+    times: u32,
+    body: &[NamedStmt],
+) -> Result<Checked, TypeFault>
+    ensures { Gives (λ c. stmt_in c bound.new) (walked (known system.now scope.now bound.old) (loop 0 (id_of name.now) times (all_named_stmts_of body.now))) result }
+{
+    let number = bind(alloc, bound, name, Ty::Scalar(Scalar::Ix(times)), false)?;
+    let inner = check_stmts(alloc, system, scope, bound, body)?;
+    Ok(Checked {
+        tree: Stmt::Loop(number, times, inner.trees),
+        high: inner.high,
+    })
+}
+
 #[cycle(stmts)]
 fn check_stmt(
     alloc: Global,
@@ -284,54 +333,22 @@ fn check_stmt(
     ensures { Gives (λ c. stmt_in c bound.new) (walked (known system.now scope.now bound.old) (named_stmt_of stmt.now)) result }
 {
     match stmt {
-        NamedStmt::Bind { name, value, .. } => {
-            let made = check_let(alloc, system, scope, bound, name, value)?;
-            Ok(made)
-        }
-        NamedStmt::Local { name, ty, .. } => {
-            let made = check_local(alloc, system, scope, bound, name, ty)?;
-            Ok(made)
-        }
-        NamedStmt::Set { place, value, .. } => {
-            let made = check_set(alloc, system, scope, bound, place, value)?;
-            Ok(made)
-        }
-        NamedStmt::Copy { to, from, .. } => {
-            let made = check_copy(alloc, system, scope, bound, to, from)?;
-            Ok(made)
-        }
+        NamedStmt::Bind { name, value, .. } => check_let(alloc, system, scope, bound, name, value),
+        NamedStmt::Local { name, ty, .. } => check_local(alloc, system, scope, bound, name, ty),
+        NamedStmt::Set { place, value, .. } => check_set(alloc, system, scope, bound, place, value),
+        NamedStmt::Copy { to, from, .. } => check_copy(alloc, system, scope, bound, to, from),
         NamedStmt::Branch { test, yes, no, .. } => {
-            let names = system.parts().record_names.as_slice();
-            let typed = keep_expr(alloc, system, scope, bound, test)?;
-            let high = high_expr(test);
-            let left = match check_stmts(alloc, system, scope, bound, yes.as_slice()) {
-                Ok(left) => left,
-                Err(fault) => return Err(earlier(high, fault)),
-            };
-            let high = first_high(high, left.high);
-            let right = match check_stmts(alloc, system, scope, bound, no.as_slice()) {
-                Ok(right) => right,
-                Err(fault) => return Err(earlier(high, fault)),
-            };
-            let made = branch_row(alloc, names, bound, test, typed, high, left.trees, right)?;
-            Ok(made)
+            let (yes, no) = (yes.as_slice(), no.as_slice());
+            check_branch(alloc, system, scope, bound, test, yes, no)
         }
         NamedStmt::Loop {
             name,
             times,
             body,
             ..
-        } => {
-            let number = bind(alloc, bound, name, Ty::Scalar(Scalar::Ix(*times)), false)?;
-            let inner = check_stmts(alloc, system, scope, bound, body.as_slice())?;
-            Ok(Checked {
-                tree: Stmt::Loop(number, *times, inner.trees),
-                high: inner.high,
-            })
-        }
+        } => check_loop(alloc, system, scope, bound, name, *times, body.as_slice()),
         NamedStmt::Emit { emitter, value, .. } => {
-            let made = check_emit(alloc, system, scope, bound, emitter, value)?;
-            Ok(made)
+            check_emit(alloc, system, scope, bound, emitter, value)
         }
     }
 }
