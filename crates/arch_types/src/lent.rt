@@ -18,6 +18,7 @@ pub enum TypeRef<'a> {
 }
 
 impl<'a> TypeRef<'a> {
+    /// The type, lent.
     pub fn of(ty: &'a Ty) -> TypeRef<'a>
         ensures { type_in result ≡ ty_of ty.now }
     {

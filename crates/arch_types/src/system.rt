@@ -61,6 +61,7 @@ impl FieldPlaces {
     }
 }
 
+/// The places of a record's fields.
 fn field_places(alloc: Global, fields: &[(Name, Ty)]) -> Result<FieldPlaces, NoMemory>
     ensures { IfOk result (λ made. find made ≡ place_in (fields_of fields.now)) }
 {
@@ -74,6 +75,7 @@ fn field_places(alloc: Global, fields: &[(Name, Ty)]) -> Result<FieldPlaces, NoM
     Ok(made)
 }
 
+/// The places of the fields of each record.
 fn all_places(alloc: Global, records: &Records) -> Result<Items<FieldPlaces>, NoMemory>
     ensures { IfOk result (λ made. map find made ≡ map place_in records.now) }
 {
@@ -128,6 +130,7 @@ impl<'a> Model for System<'a> {
 }
 
 impl<'a> System<'a> {
+    /// Goes through the fields of all records once.
     pub fn new(alloc: Global, parts: &'a ArchParts) -> Result<System<'a>, NoMemory>
         ensures { IfOk result (λ s. s ≡ arch_of parts.now) }
     {
@@ -135,6 +138,7 @@ impl<'a> System<'a> {
         Ok(System { parts, places })
     }
 
+    /// What the file declares.
     pub fn parts(&self) -> &'a ArchParts
         ensures { arch_of result.now ≡ self.now }
     {
