@@ -11,6 +11,8 @@ pub mod Sound
 pub mod Right
 pub mod Same
 pub mod Steps
+pub mod Sizes
+pub mod Finding
 pub mod Fields
 pub mod Looked
 pub mod StmtWalk

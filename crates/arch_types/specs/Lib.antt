@@ -4,6 +4,7 @@ pub mod Typing
 pub mod Body
 pub mod Order
 pub mod Walk
+pub mod Places
 pub mod Seen
 pub mod Outline
 pub mod File

@@ -2,7 +2,6 @@
 ghost use Rattle.std.specs.Prelude.{◌≡◌, ◌⊎◌, ℕ, map, OnOk, IfOk, IfErr};
 ghost use Rattle.tower_syntax.specs.RawView.{id_of};
 ghost use Rattle.tower_syntax.specs.NamedView.{link_of, all_named_stmts_of, named_hpart_of, named_part_of, named_item_of, named_of};
-ghost use Rattle.tower_types.specs.View.{ty_of};
 ghost use Rattle.tower_syntax.specs.View.{arch_of, body_of, handler_of, emitter_of};
 ghost use Rattle.tower_syntax.specs.Typed.{IsTyped};
 ghost use Rattle.arch_types.specs.Offence.{IsClean, IsFirst};
@@ -10,7 +9,7 @@ ghost use Rattle.arch_types.specs.Outline.{each, written_of, Written, callback_o
 ghost use Rattle.arch_types.specs.File.{IsChecked, Offence, AscendsFile, message_on};
 ghost use Rattle.arch_types.specs.Numbered.{IsNumbered};
 ghost use Rattle.arch_types.specs.Walk.{Gives};
-ghost use Rattle.arch_types.specs.Seen.{known_at_entry};
+ghost use Rattle.arch_types.specs.Seen.{known_at_entry, type_in};
 ghost use Rattle.arch_types.specs.Turns.{in_turn, Went, Stops, bodied, handled, WentItem, StopsItem};
 ghost use Rattle.arch_types.specs.declared.fault.TypeFault.TheVariants as fault;
 
@@ -19,6 +18,7 @@ use crate::listeners::next;
 use crate::outline::{emitters, on_of, outline};
 use crate::scope::{Bound, Scope, message_on};
 use crate::stmts::check_stmts;
+use crate::system::System;
 use sqlite_items::Items;
 use std::alloc::Global;
 use tower_syntax::{
@@ -28,7 +28,7 @@ use tower_types::NoMemory;
 
 fn check_body(
     alloc: Global,
-    system: &ArchParts,
+    system: &System,
     scope: &Scope,
     name: &Id,
     stmts: &[NamedStmt],
@@ -54,7 +54,7 @@ fn check_body(
 
 fn add_body(
     alloc: Global,
-    system: &ArchParts,
+    system: &System,
     scope: &Scope,
     made: &mut Items<Body>,
     part: &NamedHpart,
@@ -74,7 +74,7 @@ fn add_body(
 
 fn check_bodies(
     alloc: Global,
-    system: &ArchParts,
+    system: &System,
     scope: &Scope,
     parts: &[NamedHpart],
 ) -> Result<Items<Body>, TypeFault>
@@ -87,18 +87,18 @@ fn check_bodies(
     Ok(made)
 }
 
-fn scope_of(
+fn scope_of<'a>(
     alloc: Global,
-    system: &ArchParts,
+    system: &System<'a>,
     monitor: u32,
     on: &Link,
     parts: &[NamedHpart],
-) -> Result<Scope, NoMemory>
+) -> Result<Scope<'a>, NoMemory>
     ensures monitor { IfOk result (λ scope. scope.monitor ≡ monitor) }
-    ensures message { IfOk result (λ scope. ty_of scope.message ≡ message_on (arch_of system.now) (on_of on.now.target)) }
+    ensures message { IfOk result (λ scope. type_in scope.message ≡ message_on (system.now) (on_of on.now.target)) }
     ensures emitters { IfOk result (λ scope. map emitter_of scope.emitters ≡ each emitter_in (map named_hpart_of parts.now)) }
 {
-    let message = message_on(alloc, system, on_of(on.target))?;
+    let message = message_on(system.parts(), on_of(on.target));
     let emitters = emitters(alloc, parts)?;
     Ok(Scope {
         monitor,
@@ -109,13 +109,13 @@ fn scope_of(
 
 fn check_handler(
     alloc: Global,
-    system: &ArchParts,
+    system: &System,
     monitor: u32,
     name: &Id,
     on: &Link,
     parts: &[NamedHpart],
 ) -> Result<Handler, TypeFault>
-    ensures { let written : Written = record { monitor = monitor; name = id_of name.now; on = link_of on.now; parts = map named_hpart_of parts.now } in Gives handler_of (handled (arch_of system.now) written) result }
+    ensures { let written : Written = record { monitor = monitor; name = id_of name.now; on = link_of on.now; parts = map named_hpart_of parts.now } in Gives handler_of (handled (system.now) written) result }
 {
     let scope = scope_of(alloc, system, monitor, on, parts)?;
     let callbacks = check_bodies(alloc, system, &scope, parts)?;
@@ -132,13 +132,13 @@ fn check_handler(
 
 fn add_handler(
     alloc: Global,
-    system: &ArchParts,
+    system: &System,
     made: &mut Items<Handler>,
     monitor: u32,
     part: &NamedPart,
 ) -> Result<(), TypeFault>
-    ensures ok { OnOk result (Went (map handler_of made.old) (handled (arch_of system.now)) (written_of monitor (named_part_of part.now)) (map handler_of made.new)) }
-    ensures err { IfErr result (Stops (handled (arch_of system.now)) (written_of monitor (named_part_of part.now))) }
+    ensures ok { OnOk result (Went (map handler_of made.old) (handled (system.now)) (written_of monitor (named_part_of part.now)) (map handler_of made.new)) }
+    ensures err { IfErr result (Stops (handled (system.now)) (written_of monitor (named_part_of part.now))) }
 {
     match part {
         NamedPart::State { .. } => Ok(()),
@@ -158,13 +158,13 @@ fn add_handler(
 /// Adds the handlers of a monitor.
 fn add_handlers(
     alloc: Global,
-    system: &ArchParts,
+    system: &System,
     made: &mut Items<Handler>,
     monitor: u32,
     parts: &[NamedPart],
 ) -> Result<(), TypeFault>
-    ensures ok { OnOk result (Went (map handler_of made.old) (handled (arch_of system.now)) (each (written_of monitor) (map named_part_of parts.now)) (map handler_of made.new)) }
-    ensures err { IfErr result (Stops (handled (arch_of system.now)) (each (written_of monitor) (map named_part_of parts.now))) }
+    ensures ok { OnOk result (Went (map handler_of made.old) (handled (system.now)) (each (written_of monitor) (map named_part_of parts.now)) (map handler_of made.new)) }
+    ensures err { IfErr result (Stops (handled (system.now)) (each (written_of monitor) (map named_part_of parts.now))) }
 {
     for part in parts {
         add_handler(alloc, system, made, monitor, part)?;
@@ -175,13 +175,13 @@ fn add_handlers(
 /// Adds the handlers of an item. The number of the next monitor is answered.
 fn add_monitor(
     alloc: Global,
-    system: &ArchParts,
+    system: &System,
     made: &mut Items<Handler>,
     monitor: u32,
     item: &NamedItem,
 ) -> Result<u32, TypeFault>
-    ensures ok { IfOk result (λ n. WentItem (handled (arch_of system.now)) (map handler_of made.old) monitor (named_item_of item.now) (map handler_of made.new) n) }
-    ensures err { IfErr result (StopsItem (handled (arch_of system.now)) monitor (named_item_of item.now)) }
+    ensures ok { IfOk result (λ n. WentItem (handled (system.now)) (map handler_of made.old) monitor (named_item_of item.now) (map handler_of made.new) n) }
+    ensures err { IfErr result (StopsItem (handled (system.now)) monitor (named_item_of item.now)) }
 {
     match item {
         NamedItem::Monitor { parts, .. } => {
@@ -195,10 +195,10 @@ fn add_monitor(
 
 fn check_handlers(
     alloc: Global,
-    system: &ArchParts,
+    system: &System,
     items: &[NamedItem],
 ) -> Result<Items<Handler>, TypeFault>
-    ensures { Gives (map handler_of) (in_turn (handled (arch_of system.now)) (handlers_from 0 (map named_item_of items.now))) result }
+    ensures { Gives (map handler_of) (in_turn (handled (system.now)) (handlers_from 0 (map named_item_of items.now))) result }
 {
     let mut made = Items::new(alloc);
     let mut monitor: u32 = 0;
@@ -206,6 +206,19 @@ fn check_handlers(
         monitor = add_monitor(alloc, system, &mut made, monitor, item)?;
     }
     Ok(made)
+}
+
+/// The checked handlers of a file that declares this.
+fn handlers_with(
+    alloc: Global,
+    declared: &ArchParts,
+    items: &[NamedItem],
+) -> Result<Items<Handler>, TypeFault>
+    ensures { Gives (map handler_of) (in_turn (handled (arch_of declared.now)) (handlers_from 0 (map named_item_of items.now))) result }
+{
+    let system = System::new(alloc, declared)?;
+    let handlers = check_handlers(alloc, &system, items)?;
+    Ok(handlers)
 }
 
 /// The checked tree of a file, or the first fault of its types.
@@ -222,7 +235,7 @@ pub fn check_types(alloc: Global, named: &Named) -> Result<Arch, TypeFault>
     ensures first { (end : ℕ) → AscendsFile (named_of named.now) end → IfErr result (λ f. (f ≡ fault.NoMemory) ⊎ IsFirst (Offence (named_of named.now)) f) }
 {
     let mut parts = outline(alloc, named)?;
-    let handlers = check_handlers(alloc, &parts, named.items.as_slice())?;
+    let handlers = handlers_with(alloc, &parts, named.items.as_slice())?;
     parts.handlers = handlers;
     Ok(Arch::new(parts))
 }

@@ -7,11 +7,13 @@ mod fault;
 mod heights;
 mod high;
 mod laws;
+mod lent;
 mod listeners;
 mod outline;
 mod rows;
 mod scope;
 mod stmts;
+mod system;
 mod text;
 mod wanted;
 

@@ -7,8 +7,9 @@ ghost use Rattle.arch_types.specs.Typing.{type_of, no_type, root_at};
 ghost use Rattle.arch_types.specs.Body.{base};
 ghost use Rattle.arch_types.specs.File.{message_on, messages};
 ghost use Rattle.arch_types.specs.Walk.{type_at, known_type, may_write_among};
-ghost use Rattle.arch_types.specs.Seen.{known, states_in};
+ghost use Rattle.arch_types.specs.Seen.{known, states_in, type_in};
 
+use crate::lent::TypeRef;
 use sqlite_items::Items;
 use std::alloc::Global;
 use tower_syntax::{ArchParts, Emitter, NamedPlace, NamedType, On, Root, Target};
@@ -16,9 +17,9 @@ use tower_types::{Name, NoMemory, Scalar, Ty};
 
 /// What a handler's callbacks see at their beginning: their monitor, the type of the message, and the emitters.
 #[derive(Drop)]
-pub struct Scope {
+pub struct Scope<'a> {
     pub monitor: u32,
-    pub message: Ty,
+    pub message: TypeRef<'a>,
     pub emitters: Items<Emitter>,
 }
 
@@ -30,10 +31,10 @@ pub struct Bound {
 }
 
 /// The type that stands where none is known.
-fn no_type() -> Ty
-    ensures { ty_of result ≡ no_type }
+fn no_type<'a>() -> TypeRef<'a>
+    ensures { type_in result ≡ no_type }
 {
-    Ty::Scalar(Scalar::Bool)
+    TypeRef::Scalar(Scalar::Bool)
 }
 
 /// The type that is written in a file.
@@ -53,39 +54,38 @@ pub fn type_of(alloc: Global, ty: &NamedType) -> Result<Ty, NoMemory>
     }
 }
 
-fn field_type(alloc: Global, fields: &[(Name, Ty)], k: u32) -> Result<Ty, NoMemory>
-    ensures { IfOk result (λ t. ty_of t ≡ type_at (fields_of fields.now) k) }
+fn field_type(fields: &[(Name, Ty)], k: u32) -> TypeRef<'_>
+    ensures { type_in result ≡ type_at (fields_of fields.now) k }
 {
     match fields.get(k as usize) {
-        Some((_, ty)) => ty.copy(alloc),
-        None => Ok(no_type()),
+        Some((_, ty)) => TypeRef::of(ty),
+        None => no_type(),
     }
 }
 
-fn state_type(alloc: Global, system: &ArchParts, m: u32, k: u32) -> Result<Ty, NoMemory>
-    ensures { IfOk result (λ t. ty_of t ≡ type_at (states_in system.now m) k) }
+fn state_type(system: &ArchParts, m: u32, k: u32) -> TypeRef<'_>
+    ensures { type_in result ≡ type_at (states_in system.now m) k }
 {
     match system.monitors.get(m as usize) {
-        Some(monitor) => field_type(alloc, monitor.states.as_slice(), k),
-        None => Ok(no_type()),
+        Some(monitor) => field_type(monitor.states.as_slice(), k),
+        None => no_type(),
     }
 }
 
 /// The type of a name.
-pub fn name_type(
-    alloc: Global,
-    system: &ArchParts,
-    scope: &Scope,
-    bound: &Bound,
+pub fn name_type<'a>(
+    system: &'a ArchParts,
+    scope: &Scope<'a>,
+    bound: &'a Bound,
     target: Target,
-) -> Result<Ty, NoMemory>
-    ensures { IfOk result (λ t. ty_of t ≡ known_type (known system.now scope.now bound.now) target) }
+) -> TypeRef<'a>
+    ensures { type_in result ≡ known_type (known (arch_of system.now) scope.now bound.now) target }
 {
     match target {
-        Target::Param => scope.message.copy(alloc),
-        Target::Binder(b) => field_type(alloc, bound.names.as_slice(), b),
-        Target::State(k) => state_type(alloc, system, scope.monitor, k),
-        _ => Ok(no_type()),
+        Target::Param => scope.message,
+        Target::Binder(b) => field_type(bound.names.as_slice(), b),
+        Target::State(k) => state_type(system, scope.monitor, k),
+        _ => no_type(),
     }
 }
 
@@ -127,32 +127,27 @@ pub fn base(place: &NamedPlace) -> Target
 }
 
 /// The type of the messages of a source or channel.
-pub fn message_on(alloc: Global, system: &ArchParts, on: On) -> Result<Ty, NoMemory>
-    ensures { IfOk result (λ t. ty_of t ≡ message_on (arch_of system.now) on) }
+pub fn message_on(system: &ArchParts, on: On) -> TypeRef<'_>
+    ensures { type_in result ≡ message_on (arch_of system.now) on }
 {
     match on {
         On::Source(s) => match system.sources.get(s as usize) {
-            Some(source) => source.message.copy(alloc),
-            None => Ok(no_type()),
+            Some(source) => TypeRef::of(&source.message),
+            None => no_type(),
         },
         On::Channel(c) => match system.channels.get(c as usize) {
-            Some(channel) => channel.message.copy(alloc),
-            None => Ok(no_type()),
+            Some(channel) => TypeRef::of(&channel.message),
+            None => no_type(),
         },
     }
 }
 
 /// The type of the messages of an emitter.
-pub fn emitter_message(
-    alloc: Global,
-    system: &ArchParts,
-    scope: &Scope,
-    k: u32,
-) -> Result<Ty, NoMemory>
-    ensures { IfOk result (λ t. ty_of t ≡ slice_index_or (messages (arch_of system.now) (map emitter_of scope.now.emitters)) k no_type) }
+pub fn emitter_message<'a>(system: &'a ArchParts, scope: &Scope, k: u32) -> TypeRef<'a>
+    ensures { type_in result ≡ slice_index_or (messages (arch_of system.now) (map emitter_of scope.now.emitters)) k no_type }
 {
     match scope.emitters.get(k as usize) {
-        Some(emitter) => message_on(alloc, system, On::Channel(emitter.channel)),
-        None => Ok(no_type()),
+        Some(emitter) => message_on(system, On::Channel(emitter.channel)),
+        None => no_type(),
     }
 }

@@ -5,25 +5,25 @@ ghost use Rattle.tower_types.specs.View.{ty_of, fields_of};
 ghost use Rattle.tower_syntax.specs.NamedView.{named_type_of, named_place_of, named_expr_of, named_stmt_of, all_named_stmts_of, link_of};
 ghost use Rattle.tower_syntax.specs.RawView.{id_of};
 ghost use Rattle.tower_syntax.specs.View.{stmt_of};
-ghost use Rattle.tower_syntax.specs.RawTree.{bind, local, set, copy, emit};
+ghost use Rattle.tower_syntax.specs.RawTree.{bind, local, set, copy, branch, loop, emit};
 ghost use Rattle.arch_types.specs.Body.{emitter_number, base, if_writable};
 ghost use Rattle.tower_syntax.specs.Offset.{link_offset, place_offset};
 ghost use Rattle.arch_types.specs.Typing.{type_of};
 ghost use Rattle.arch_types.specs.Walk.{Gives, Passes, set_row, copy_row, branch_row, loop_row, write_misfit, walked, walked_all, may_write_among};
-ghost use Rattle.arch_types.specs.Seen.{known, expr_in, place_in, stmt_in, stmts_in};
+ghost use Rattle.arch_types.specs.Seen.{known, expr_in, kept_in, place_in, stmt_in, stmts_in};
 ghost use Rattle.arch_types.specs.declared.fault.TypeFault.TheVariants.{NoMemory};
 
-use crate::exprs::{check_expr, check_place};
+use crate::exprs::{KeptExpr, check_expr, check_place, keep_expr};
 use crate::fault::TypeFault;
 use crate::high::{High, earlier, first_high, high_expr, high_place};
+use crate::lent::TypeRef;
 use crate::rows::{TypedExpr, TypedPlace};
 use crate::scope::{Bound, Scope, base, emitter_message, type_of, writable};
+use crate::system::System;
 use crate::wanted::{Asked, ask, ask_same};
 use sqlite_items::Items;
 use std::alloc::Global;
-use tower_syntax::{
-    ArchParts, Id, Link, NamedExpr, NamedPlace, NamedStmt, NamedType, Stmt, Target,
-};
+use tower_syntax::{Id, Link, NamedExpr, NamedPlace, NamedStmt, NamedType, Stmt, Target};
 use tower_types::{Name, Scalar, Ty};
 
 /// A statement of the checked tree, and the first of its expressions and places that is too high.
@@ -64,7 +64,7 @@ fn bind(
 
 fn check_let(
     alloc: Global,
-    system: &ArchParts,
+    system: &System,
     scope: &Scope,
     bound: &mut Bound,
     name: &Id,
@@ -72,13 +72,14 @@ fn check_let(
 ) -> Result<Checked, TypeFault>
     ensures { Gives (λ c. stmt_in c bound.new) (walked (known system.now scope.now bound.old) (bind 0 (id_of name.now) (named_expr_of value.now))) result }
 {
-    let typed = check_expr(alloc, system, scope, bound, value)?;
+    let typed = keep_expr(alloc, system, scope, bound, value)?;
+    let names = system.parts().record_names.as_slice();
     ask(
         alloc,
-        system.record_names.as_slice(),
+        names,
         value.at(),
         Asked::Scalar,
-        &typed.ty,
+        TypeRef::of(&typed.ty),
     )?;
     let number = bind(alloc, bound, name, typed.ty, false)?;
     Ok(Checked {
@@ -89,7 +90,7 @@ fn check_let(
 
 fn check_local(
     alloc: Global,
-    system: &ArchParts,
+    system: &System,
     scope: &Scope,
     bound: &mut Bound,
     name: &Id,
@@ -117,7 +118,7 @@ fn ask_writable(bound: &Bound, place: &NamedPlace) -> Result<(), TypeFault>
 
 fn set_row(
     alloc: Global,
-    system: &ArchParts,
+    system: &System,
     scope: &Scope,
     bound: &Bound,
     place: &NamedPlace,
@@ -125,13 +126,13 @@ fn set_row(
     to: TypedPlace,
     from: TypedExpr,
 ) -> Result<Checked, TypeFault>
-    ensures { Gives (λ c. stmt_in c bound.now) (set_row (known system.now scope.now bound.now) (named_place_of place.now) (named_expr_of value.now) (place_in to) (expr_in from)) result }
+    ensures { Gives (λ c. stmt_in c bound.now) (set_row (known system.now scope.now bound.now) (named_place_of place.now) (named_expr_of value.now) (place_in to.entry) (expr_in from.entry)) result }
 {
-    let names = system.record_names.as_slice();
+    let names = system.parts().record_names.as_slice();
     ask_writable(bound, place)?;
-    ask(alloc, names, place.at(), Asked::Scalar, &to.ty)?;
+    ask(alloc, names, place.at(), Asked::Scalar, to.ty)?;
     let high = high_place(place);
-    match ask_same(alloc, names, value.at(), &to.ty, &from.ty) {
+    match ask_same(alloc, names, value.at(), to.ty, from.ty) {
         Ok(()) => {
             let next = high_expr(value);
             let place = to.place();
@@ -146,7 +147,7 @@ fn set_row(
 
 fn check_set(
     alloc: Global,
-    system: &ArchParts,
+    system: &System,
     scope: &Scope,
     bound: &Bound,
     place: &NamedPlace,
@@ -167,7 +168,7 @@ fn check_set(
 
 fn copy_row(
     alloc: Global,
-    system: &ArchParts,
+    system: &System,
     scope: &Scope,
     bound: &Bound,
     place: &NamedPlace,
@@ -175,17 +176,12 @@ fn copy_row(
     to: TypedPlace,
     from: TypedPlace,
 ) -> Result<Checked, TypeFault>
-    ensures { Gives (λ c. stmt_in c bound.now) (copy_row (known system.now scope.now bound.now) (named_place_of place.now) (named_place_of value.now) (place_in to) (place_in from)) result }
+    ensures { Gives (λ c. stmt_in c bound.now) (copy_row (known system.now scope.now bound.now) (named_place_of place.now) (named_place_of value.now) (place_in to.entry) (place_in from.entry)) result }
 {
     ask_writable(bound, place)?;
     let high = high_place(place);
-    match ask_same(
-        alloc,
-        system.record_names.as_slice(),
-        value.at(),
-        &to.ty,
-        &from.ty,
-    ) {
+    let names = system.parts().record_names.as_slice();
+    match ask_same(alloc, names, value.at(), to.ty, from.ty) {
         Ok(()) => {
             let next = high_place(value);
             let place = to.place();
@@ -201,7 +197,7 @@ fn copy_row(
 
 fn check_copy(
     alloc: Global,
-    system: &ArchParts,
+    system: &System,
     scope: &Scope,
     bound: &Bound,
     place: &NamedPlace,
@@ -231,7 +227,7 @@ fn emitter_number(target: Target) -> u32
 
 fn check_emit(
     alloc: Global,
-    system: &ArchParts,
+    system: &System,
     scope: &Scope,
     bound: &Bound,
     emitter: &Link,
@@ -241,14 +237,10 @@ fn check_emit(
 {
     let typed = check_expr(alloc, system, scope, bound, value)?;
     let k = emitter_number(emitter.target);
-    let message = emitter_message(alloc, system, scope, k)?;
-    ask_same(
-        alloc,
-        system.record_names.as_slice(),
-        value.at(),
-        &message,
-        &typed.ty,
-    )?;
+    let parts = system.parts();
+    let names = parts.record_names.as_slice();
+    let message = emitter_message(parts, scope, k);
+    ask_same(alloc, names, value.at(), message, typed.ty)?;
     Ok(Checked {
         tree: Stmt::Emit(k, typed.tree),
         high: high_expr(value),
@@ -261,24 +253,79 @@ fn branch_row(
     names: &[Name],
     bound: &Bound,
     test: &NamedExpr,
-    typed: TypedExpr,
+    typed: KeptExpr,
     high: Option<High>,
     left: Items<Stmt>,
     right: AllChecked,
 ) -> Result<Checked, TypeFault>
-    ensures { Gives (λ c. stmt_in c bound.now) (branch_row names.now (named_expr_of test.now) (expr_in typed) high (map stmt_of left) (stmts_in right bound.now)) result }
+    ensures { Gives (λ c. stmt_in c bound.now) (branch_row names.now (named_expr_of test.now) (kept_in typed) high (map stmt_of left) (stmts_in right bound.now)) result }
 {
-    ask(alloc, names, test.at(), Asked::Truth, &typed.ty)?;
+    ask(
+        alloc,
+        names,
+        test.at(),
+        Asked::Truth,
+        TypeRef::of(&typed.ty),
+    )?;
     Ok(Checked {
         tree: Stmt::Branch(typed.tree, left, right.trees),
         high: first_high(high, right.high),
     })
 }
 
+/// An `if`. What is wrong with its test's type is told behind what is wrong in its branches.
+#[cycle(stmts)]
+fn check_branch(
+    alloc: Global,
+    system: &System,
+    scope: &Scope,
+    bound: &mut Bound,
+    test: &NamedExpr,
+    yes: &[NamedStmt],
+    no: &[NamedStmt],
+) -> Result<Checked, TypeFault>
+    ensures { Gives (λ c. stmt_in c bound.new) (walked (known system.now scope.now bound.old) (branch 0 (named_expr_of test.now) 0 (all_named_stmts_of yes.now) 0 (all_named_stmts_of no.now))) result }
+{
+    let names = system.parts().record_names.as_slice();
+    let typed = keep_expr(alloc, system, scope, bound, test)?;
+    let high = high_expr(test);
+    let left = match check_stmts(alloc, system, scope, bound, yes) {
+        Ok(left) => left,
+        Err(fault) => return Err(earlier(high, fault)),
+    };
+    let high = first_high(high, left.high);
+    let right = match check_stmts(alloc, system, scope, bound, no) {
+        Ok(right) => right,
+        Err(fault) => return Err(earlier(high, fault)),
+    };
+    let made = branch_row(alloc, names, bound, test, typed, high, left.trees, right)?;
+    Ok(made)
+}
+
+#[cycle(stmts)]
+fn check_loop(
+    alloc: Global,
+    system: &System,
+    scope: &Scope,
+    bound: &mut Bound,
+    name: &Id,
+    times: u32,
+    body: &[NamedStmt],
+) -> Result<Checked, TypeFault>
+    ensures { Gives (λ c. stmt_in c bound.new) (walked (known system.now scope.now bound.old) (loop 0 (id_of name.now) times (all_named_stmts_of body.now))) result }
+{
+    let number = bind(alloc, bound, name, Ty::Scalar(Scalar::Ix(times)), false)?;
+    let inner = check_stmts(alloc, system, scope, bound, body)?;
+    Ok(Checked {
+        tree: Stmt::Loop(number, times, inner.trees),
+        high: inner.high,
+    })
+}
+
 #[cycle(stmts)]
 fn check_stmt(
     alloc: Global,
-    system: &ArchParts,
+    system: &System,
     scope: &Scope,
     bound: &mut Bound,
     stmt: &NamedStmt,
@@ -286,54 +333,22 @@ fn check_stmt(
     ensures { Gives (λ c. stmt_in c bound.new) (walked (known system.now scope.now bound.old) (named_stmt_of stmt.now)) result }
 {
     match stmt {
-        NamedStmt::Bind { name, value, .. } => {
-            let made = check_let(alloc, system, scope, bound, name, value)?;
-            Ok(made)
-        }
-        NamedStmt::Local { name, ty, .. } => {
-            let made = check_local(alloc, system, scope, bound, name, ty)?;
-            Ok(made)
-        }
-        NamedStmt::Set { place, value, .. } => {
-            let made = check_set(alloc, system, scope, bound, place, value)?;
-            Ok(made)
-        }
-        NamedStmt::Copy { to, from, .. } => {
-            let made = check_copy(alloc, system, scope, bound, to, from)?;
-            Ok(made)
-        }
+        NamedStmt::Bind { name, value, .. } => check_let(alloc, system, scope, bound, name, value),
+        NamedStmt::Local { name, ty, .. } => check_local(alloc, system, scope, bound, name, ty),
+        NamedStmt::Set { place, value, .. } => check_set(alloc, system, scope, bound, place, value),
+        NamedStmt::Copy { to, from, .. } => check_copy(alloc, system, scope, bound, to, from),
         NamedStmt::Branch { test, yes, no, .. } => {
-            let names = system.record_names.as_slice();
-            let typed = check_expr(alloc, system, scope, bound, test)?;
-            let high = high_expr(test);
-            let left = match check_stmts(alloc, system, scope, bound, yes.as_slice()) {
-                Ok(left) => left,
-                Err(fault) => return Err(earlier(high, fault)),
-            };
-            let high = first_high(high, left.high);
-            let right = match check_stmts(alloc, system, scope, bound, no.as_slice()) {
-                Ok(right) => right,
-                Err(fault) => return Err(earlier(high, fault)),
-            };
-            let made = branch_row(alloc, names, bound, test, typed, high, left.trees, right)?;
-            Ok(made)
+            let (yes, no) = (yes.as_slice(), no.as_slice());
+            check_branch(alloc, system, scope, bound, test, yes, no)
         }
         NamedStmt::Loop {
             name,
             times,
             body,
             ..
-        } => {
-            let number = bind(alloc, bound, name, Ty::Scalar(Scalar::Ix(*times)), false)?;
-            let inner = check_stmts(alloc, system, scope, bound, body.as_slice())?;
-            Ok(Checked {
-                tree: Stmt::Loop(number, *times, inner.trees),
-                high: inner.high,
-            })
-        }
+        } => check_loop(alloc, system, scope, bound, name, *times, body.as_slice()),
         NamedStmt::Emit { emitter, value, .. } => {
-            let made = check_emit(alloc, system, scope, bound, emitter, value)?;
-            Ok(made)
+            check_emit(alloc, system, scope, bound, emitter, value)
         }
     }
 }
@@ -342,7 +357,7 @@ fn check_stmt(
 #[cycle(stmts)]
 pub fn check_stmts(
     alloc: Global,
-    system: &ArchParts,
+    system: &System,
     scope: &Scope,
     bound: &mut Bound,
     stmts: &[NamedStmt],

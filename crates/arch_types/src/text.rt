@@ -4,7 +4,9 @@ ghost use Rattle.tower_types.specs.View.{ty_of};
 ghost use Rattle.tower_syntax.specs.Form.{text};
 ghost use Rattle.tower_syntax.specs.Printed.{number_form};
 ghost use Rattle.arch_types.specs.Wanted.{type_text};
+ghost use Rattle.arch_types.specs.Seen.{type_in};
 
+use crate::lent::TypeRef;
 use itoa::Buffer;
 use std::alloc::Global;
 use tower_syntax::scalar_text;
@@ -49,10 +51,11 @@ fn put_type(alloc: Global, out: &mut Vec<u8>, names: &[Name], ty: &Ty) -> Result
 }
 
 /// The text of a type as a file has it. The names are those of the records.
-pub fn type_text(alloc: Global, names: &[Name], ty: &Ty) -> Result<Text, NoMemory>
-    ensures { IfOk result (λ shown. shown ≡ type_text names.now (ty_of ty.now)) }
+pub fn type_text(alloc: Global, names: &[Name], ty: TypeRef) -> Result<Text, NoMemory>
+    ensures { IfOk result (λ shown. shown ≡ type_text names.now (type_in ty.entry)) }
 {
+    let ty = ty.copy(alloc)?;
     let mut out = Vec::new(alloc);
-    put_type(alloc, &mut out, names, ty)?;
+    put_type(alloc, &mut out, names, &ty)?;
     Text::new(alloc, out.as_slice())
 }

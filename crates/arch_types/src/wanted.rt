@@ -1,14 +1,14 @@
 //! What is asked of a node's type.
 ghost use Rattle.std.specs.Prelude.{◌≡◌, IfOk};
-ghost use Rattle.tower_types.specs.View.{ty_of};
 ghost use Rattle.arch_types.specs.Wanted.{wanted, wanted_one, fulfils, shown, misfit, exactly};
-ghost use Rattle.arch_types.specs.Seen.{view};
-ghost use Rattle.arch_types.specs.Walk.{Passes, scalar_in};
+ghost use Rattle.arch_types.specs.Seen.{view, type_in};
+ghost use Rattle.arch_types.specs.Walk.{Passes};
 
 use crate::fault::{TypeFault, Want};
+use crate::lent::TypeRef;
 use crate::text::type_text;
 use std::alloc::Global;
-use tower_types::{BinOp, Name, NoMemory, Scalar, Text, Ty, UnOp, is_number, is_unsigned};
+use tower_types::{BinOp, Name, NoMemory, Scalar, UnOp, is_number, is_unsigned};
 
 /// What the type table asks, but for a type that another node has.
 #[derive(Clone, Copy, Debug, PartialEq, Eq)]
@@ -43,16 +43,16 @@ pub fn only_operand(op: UnOp) -> Asked
     }
 }
 
-fn fulfils(asked: Asked, ty: &Ty) -> bool
-    ensures { result ≡ fulfils (view asked) (ty_of ty.now) }
+fn fulfils(asked: Asked, ty: TypeRef) -> bool
+    ensures { result ≡ fulfils (view asked) (type_in ty.entry) }
 {
     match (asked, ty) {
-        (Asked::Scalar, Ty::Scalar(_)) => true,
-        (Asked::Number, Ty::Scalar(s)) => is_number(*s),
-        (Asked::Unsigned, Ty::Scalar(s)) => is_unsigned(*s),
-        (Asked::Truth, Ty::Scalar(s)) => *s == Scalar::Bool,
-        (Asked::Array, Ty::Array(_, _)) => true,
-        (Asked::Record, Ty::Rec(_)) => true,
+        (Asked::Scalar, TypeRef::Scalar(_)) => true,
+        (Asked::Number, TypeRef::Scalar(s)) => is_number(s),
+        (Asked::Unsigned, TypeRef::Scalar(s)) => is_unsigned(s),
+        (Asked::Truth, TypeRef::Scalar(s)) => s == Scalar::Bool,
+        (Asked::Array, TypeRef::Array(_, _)) => true,
+        (Asked::Record, TypeRef::Rec(_)) => true,
         _ => false,
     }
 }
@@ -66,7 +66,7 @@ fn shown(alloc: Global, names: &[Name], asked: Asked) -> Result<Want, NoMemory>
         Asked::Unsigned => Want::Unsigned,
         Asked::Array => Want::Array,
         Asked::Record => Want::Record,
-        Asked::Truth => Want::Exactly(type_text(alloc, names, &Ty::Scalar(Scalar::Bool))?),
+        Asked::Truth => Want::Exactly(type_text(alloc, names, TypeRef::Scalar(Scalar::Bool))?),
     })
 }
 
@@ -76,9 +76,9 @@ pub fn ask(
     names: &[Name],
     at: u32,
     asked: Asked,
-    found: &Ty,
+    found: TypeRef,
 ) -> Result<(), TypeFault>
-    ensures { Passes (misfit names.now at (view asked) (ty_of found.now)) result }
+    ensures { Passes (misfit names.now at (view asked) (type_in found.entry)) result }
 {
     if fulfils(asked, found) {
         return Ok(());
@@ -93,10 +93,10 @@ pub fn ask_same(
     alloc: Global,
     names: &[Name],
     at: u32,
-    wanted: &Ty,
-    found: &Ty,
+    wanted: TypeRef,
+    found: TypeRef,
 ) -> Result<(), TypeFault>
-    ensures { Passes (misfit names.now at (exactly (ty_of wanted.now)) (ty_of found.now)) result }
+    ensures { Passes (misfit names.now at (exactly (type_in wanted.entry)) (type_in found.entry)) result }
 {
     if wanted.same(found) {
         return Ok(());
@@ -108,14 +108,4 @@ pub fn ask_same(
         want: Want::Exactly(wanted),
         found,
     })
-}
-
-/// The scalar of a type that is one.
-pub fn scalar_in(ty: &Ty) -> Scalar
-    ensures { result ≡ scalar_in (ty_of ty.now) }
-{
-    match ty {
-        Ty::Scalar(s) => *s,
-        _ => Scalar::Bool,
-    }
 }
