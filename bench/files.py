@@ -120,7 +120,7 @@ def sums():
     e = "v"
     for _ in range(11):
         e = f"(+ {e} {e})"
-    return body(endless(f"(let q {e})"))
+    return body(endless(f"(set x {e})"), "(state x u8)")
 
 
 def emits():
