@@ -8,16 +8,16 @@ use Rattle.tower_top.specs.declared.status.Status.TheVariants as status
 use Rattle.tower_top.specs.Words.{AsksCheck, AsksRun, AsksWith}
 use Rattle.tower_top.specs.Answers.{Held, IsHeld, IsDue, refused, checks, not_yet, runs}
 
-same_file : (words : List (List ℕ)) (a b : List ℕ) → AsksWith words a → AsksWith words b → a ≡ b
+pub same_file : (words : List (List ℕ)) (a b : List ℕ) → AsksWith words a → AsksWith words b → a ≡ b
 same_file words a b (inl x) (inl y) = ap (λ ws. get_or ws 2 []) (sym x.are ∙ y.are)
 same_file words a b (inl x) (inr y) = absurd (omega (arith, ap length (sym x.are ∙ y.1.are)))
 same_file words a b (inr x) (inl y) = absurd (omega (arith, ap length (sym x.1.are ∙ y.are)))
 same_file words a b (inr x) (inr y) = ap (λ ws. get_or ws 2 []) (sym x.1.are ∙ y.1.are)
 
-told_text : (o : Option (List ℕ)) (text t : List ℕ) → o ≡ Some text → IfSome o (λ told. told ≡ t) → text ≡ t
+pub told_text : (o : Option (List ℕ)) (text t : List ℕ) → o ≡ Some text → IfSome o (λ told. told ≡ t) → text ≡ t
 told_text o text t e h = rw e at h
 
-not_both : (text : List ℕ) (arch : Arch) (f : Fault) → IsFault text f → IsAccepted text arch → ⊥
+pub not_both : (text : List ℕ) (arch : Arch) (f : Fault) → IsFault text f → IsAccepted text arch → ⊥
 not_both text arch f wrong accepted = accepted.clean wrong.at f wrong.offends
 
 module _ (held : Held) (words : List (List ℕ)) (file text : List ℕ) (f : Fault) (asks : AsksWith words file) (told : held file ≡ Some text) (wrong : IsFault text f) where

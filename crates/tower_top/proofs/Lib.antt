@@ -5,7 +5,10 @@ pub mod FileFacts
 pub mod InputFacts
 pub mod Quiet
 pub mod RunFacts
+pub mod SmallAccepted
 pub mod SmallFacts
+pub mod SmallNamed
 pub mod SmallSound
+pub mod SmallSpelled
 pub mod TopFacts
 pub mod Turns

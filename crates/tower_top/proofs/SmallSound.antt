@@ -92,7 +92,7 @@ module _ (s : Small) (valid : IsValid s) where
   abbrev program : Program
   program = code_of (arch_of s)
 
-  addend_fits : fits_scalar U32 (pos s.addend) ≡ true
+  pub addend_fits : fits_scalar U32 (pos s.addend) ≡ true
   addend_fits = let h : s.addend < 4294967296 = (let k = valid.addend in omega arith) in ap₂ (λ a b. a && b) (le-leb 0 s.addend (omega arith)) (lt-ltb s.addend 4294967296 h)
 
   costs : here.cost 0 ≡ 216
