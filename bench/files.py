@@ -123,7 +123,21 @@ def sums():
     return body(endless(f"(let q {e})"))
 
 
+def emits():
+    """Emits of a value whose type is nested deep."""
+    ty = "(array 1 " * 240 + "u8" + ")" * 240
+    head = f"(tower a (signal s u8 1)(channel c {ty})(monitor m (state x {ty})(handler h s (emitter e c 9)(callback v "
+    return filled(head, endless("(emit e x)"), "))))")
+
+
 # ---- the graph
+
+def branches():
+    """A handler with thousands of emitters, and as many branches."""
+    head = "(tower a (signal s u8 1)(channel c u8)(monitor m (handler h s "
+    head += "".join(f"(emitter e{n} c 1)" for n in range(18_000)) + "(callback v "
+    return filled(head, (f"(if true (then (emit e{n % 18_000} v)) (else))" for n in range(10**6)), "))))")
+
 
 def fans():
     """64 sources that reach everything: 4,096 handlers in layers, each of which leads to the whole next one."""
@@ -154,6 +168,22 @@ def ring():
     items += "".join(f"(handler g{n} s{n} (emitter e c0 1) (callback v))" for n in range(64))
     items += "".join(f"(handler h{n} c{n} (emitter e c{(n + 1) % 4032} 1) (callback v))" for n in range(4032))
     return f"(tower ring {items}))"
+
+
+def long_ring():
+    """One ring of as many handlers as fit."""
+    count = 14_000
+    items = "".join(f"(channel c{n} u8)" for n in range(count)) + "(init s 1)(monitor m (handler g s (emitter e c0 1) (callback v))"
+    items += "".join(f"(handler h{n} c{n} (emitter e c{(n + 1) % count} 1) (callback v))" for n in range(count))
+    return f"(tower ring {items}))"
+
+
+def sources():
+    """As many sources as fit, each of which reaches a ring."""
+    count = 14_000
+    items = "(channel c u8)" + "".join(f"(init s{n} 1)" for n in range(count)) + "(monitor m (handler h c (emitter e c 1) (callback v))"
+    items += "".join(f"(handler g{n} s{n} (emitter e c 1) (callback v))" for n in range(count))
+    return f"(tower sources {items}))"
 
 
 def rings():
@@ -191,9 +221,13 @@ FILES = {
     "steps": steps,
     "doubling": doubling,
     "sums": sums,
+    "emits": emits,
+    "branches": branches,
     "fans": fans,
     "chain": chain,
     "ring": ring,
+    "long ring": long_ring,
+    "sources": sources,
     "rings": rings,
     "crowd": crowd,
 }

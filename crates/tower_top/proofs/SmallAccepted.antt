@@ -23,7 +23,7 @@ use Rattle.arch_checks.specs.declared.fault.What.{What}
 use Rattle.arch_checks.specs.declared.fault.What.TheVariants as what
 use Rattle.arch_checks.specs.Limits.{limit, work_limit}
 use Rattle.arch_checks.specs.Sizes.{deepest, widest, Counts}
-use Rattle.arch_checks.specs.Offences.{IsNamed, IsSystem, Place, Offends, reads, names, types, bound, cycle, size, work, IsFault, IsAccepted}
+use Rattle.arch_checks.specs.Offences.{IsNamed, IsSystem, Standing, Offends, reads, names, types, bound, cycle, size, work, IsFault, IsAccepted}
 use Rattle.arch_checks.proofs.Trees.{named_once, named_numbered, system_once}
 use Rattle.tower_top.specs.Small.{Small, Spells, arch_of}
 use Rattle.tower_top.specs.declared.status.Status.TheVariants.{Refused}
@@ -103,7 +103,7 @@ module _ (text : List ℕ) (s : Small) (h : Spells text s) where
   only : (arch : Arch) → IsSystem text arch → arch ≡ arch_of s
   only arch other = system_once text arch (arch_of s) other system
 
-  clean : (p : Place) (f : Fault) → Offends text p f → ⊥
+  clean : (p : Standing) (f : Fault) → Offends text p f → ⊥
   clean p f (reads g o) = reading.not_both text (raw_tree s (at text s h)) g (spelled text s h) o
   clean p f (names raw g is o) = names_clean s (at text s h) h.valid g (subst (λ r. naming.Offences r g) (one_tree text raw (raw_tree s (at text s h)) is (spelled text s h)) o)
   clean p f (types tree g is o) = types_clean g (subst (λ t. typing.Offence t g) (named_once text tree named is is_named) o)
