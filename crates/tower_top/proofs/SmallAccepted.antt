@@ -121,8 +121,8 @@ module _ (text : List ℕ) (s : Small) (h : Spells text s) where
 
 module _ (held : Held) (words : List (List ℕ)) (file text : List ℕ) (s : Small) (asks : AsksWith words file) (told : held file ≡ Some text) (spells : Spells text s) where
   same_text : (a t : List ℕ) → AsksWith words a → IsHeld held a t → text ≡ t
-  same_text a t names is = told_text (held file) text t told (subst (λ n. IsHeld held n t) (same_file words a file names asks) is)
+  same_text a t asked is = told_text (held file) text t told (subst (λ n. IsHeld held n t) (same_file words a file asked asks) is)
 
   pub never_refused : (out err : List ℕ) → IsDue held words Refused out err → ⊥
-  never_refused out err (refused a t f names is wrong) = not_both text (arch_of s) f (subst (λ x. IsFault x f) (sym (same_text a t names is)) wrong) (accepted text s spells)
-  never_refused out err (not_yet a name t other names is ok large) = large s (subst (λ x. Spells x s) (same_text a t (inr (name, names)) is) spells)
+  never_refused out err (refused a t f asked is wrong) = not_both text (arch_of s) f (subst (λ x. IsFault x f) (sym (same_text a t asked is)) wrong) (accepted text s spells)
+  never_refused out err (not_yet a name t other asked is ok large) = large s (subst (λ x. Spells x s) (same_text a t (inr (name, asked)) is) spells)
