@@ -1,5 +1,5 @@
 -- Worked counts: types of a system, and type nodes of a text.
-use Rattle.std.specs.Prelude.{◌≡◌, ℕ, pos, List, [], ◌∷◌}
+use Rattle.std.specs.Prelude.{◌≡◌, ℕ, pos, [], ◌∷◌}
 use Rattle.tower_types.specs.declared.scalar.Scalar.TheVariants.{U8, I32}
 use Rattle.tower_syntax.specs.RawTree.{Id, Link, RawType, word, array, RawStmts, no_stmts, stmt, local, bind, cast, lit, Raw, channel, monitor, handler, state, callback}
 use Rattle.tower_syntax.specs.declared.named.Target.TheVariants as target

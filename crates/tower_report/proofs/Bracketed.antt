@@ -1,7 +1,6 @@
 -- Texts in brackets, as they are put.
-use Rattle.std.proofs.Common.{◌≡◌, ℕ, List, [], ◌∷◌, ◌++◌, Option}
+use Rattle.std.proofs.Common.{ℕ, List, Option}
 use Rattle.std.specs.Prelude.{codes}
-use Rattle.tower_io.specs.declared.answers.Put.{Put}
 use Rattle.tower_io.specs.declared.answers.Put.TheVariants.{Done, Failed}
 use Rattle.tower_report.specs.Bytes.{Bytes, spaced, in_brackets}
 use Rattle.tower_report.specs.Puts.{Puts}

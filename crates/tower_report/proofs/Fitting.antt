@@ -1,11 +1,11 @@
 -- A replay, mark by mark.
-use Rattle.std.proofs.Common.{◌≡◌, ℕ, zero, suc, ◌+◌, List, [], ◌∷◌, ◌++◌, length, Option, Some, None, refl, ap, sym, ◌∙◌, arith}
+use Rattle.std.proofs.Common.{◌≡◌, ℕ, ◌+◌, List, [], ◌∷◌, ◌++◌, length, Option, Some, None, refl, ap, sym, ◌∙◌, arith}
 use Rattle.std.proofs.lemmas.Option.{none-some}
 use Rattle.tower_syntax.specs.declared.event.Mark.{Mark}
 use Rattle.tower_syntax.specs.Arch.{Events}
 use Rattle.tower_meaning.specs.System.{System}
 use Rattle.tower_meaning.specs.Atomic.{Atomic, act}
-use Rattle.tower_report.specs.ReplayText.{Replayed, replayed_from}
+use Rattle.tower_report.specs.ReplayText.{replayed_from}
 
 -- no mark has failed
 abbrev pub Leads : System → Events → ℕ → Atomic → Option Atomic → List Mark → Atomic → Type 0

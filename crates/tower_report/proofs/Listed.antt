@@ -1,5 +1,5 @@
 -- The texts of a list of values.
-use Rattle.std.proofs.Common.{◌≡◌, ℕ, zero, suc, ◌<◌, ◌≤◌, min, List, [], ◌∷◌, length, map, get_or, refl, sym, ap, ◌∙◌, arith}
+use Rattle.std.proofs.Common.{◌≡◌, ℕ, zero, suc, ◌<◌, min, List, [], ◌∷◌, length, get_or, refl, sym, ap, ◌∙◌, arith}
 use Rattle.tower_types.specs.Ty.{Shape, shapes_of}
 use Rattle.tower_types.specs.View.{value_of, all_values_of}
 use Rattle.tower_types.specs.declared.value.Value.{Value as ValueValue}

@@ -1,10 +1,10 @@
 -- What a number of a system stands for.
-use Rattle.std.proofs.Common.{◌≡◌, ℕ, ◌<◌, ℤ, List, [], ◌∷◌, length, map, get_or, Some, slice_get, sym, ap, ◌∙◌}
+use Rattle.std.proofs.Common.{◌≡◌, ℕ, ℤ, List, [], ◌∷◌, map, get_or, Some, slice_get, sym, ap, ◌∙◌}
 use Rattle.std.specs.Prelude.{codes, decimal, cond, true, false, is_some}
 use Rattle.std.proofs.lemmas.List.{get_or-map}
 use Rattle.std.proofs.lemmas.Option.{slice_get_within, get_or_from_slice_get}
-use Rattle.tower_types.specs.Ty.{Ty, Shape, shape_of}
-use Rattle.tower_syntax.specs.Arch.{Arch, Source, Channel, Output, Monitor}
+use Rattle.tower_types.specs.Ty.{Shape, shape_of}
+use Rattle.tower_syntax.specs.Arch.{Arch, Source, Channel, Output}
 use Rattle.tower_syntax.specs.Graph.{no_output}
 use Rattle.tower_syntax.specs.Weights.{channel_message}
 use Rattle.tower_syntax.specs.WellNumbered.{IsNumberedSource}

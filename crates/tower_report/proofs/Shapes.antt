@@ -1,10 +1,10 @@
 -- The shapes of a record's fields, read over all records.
-use Rattle.std.proofs.Common.{◌≡◌, ℕ, zero, suc, ◌+◌, ◌<◌, ◌≤◌, max, ℤ, List, [], ◌∷◌, ◌++◌, length, map, take, get_or, Some, slice_get, refl, ap, sym, subst, ◌∙◌, arith, append_assoc, append-nil}
+use Rattle.std.proofs.Common.{◌≡◌, ℕ, zero, suc, ◌+◌, ◌<◌, ◌≤◌, ℤ, List, [], ◌∷◌, ◌++◌, length, map, take, get_or, Some, slice_get, refl, ap, sym, subst, ◌∙◌, arith, append_assoc, append-nil}
 use Rattle.std.specs.Prelude.{fold, All}
-use Rattle.std.proofs.lemmas.List.{length-map, get_or-map, take-map, take_more, length-append, get_or_append_left, get_or_at}
-use Rattle.std.proofs.lemmas.List.Elements.{All-get_or, All-head, All-tail, All-weaker, All-map}
+use Rattle.std.proofs.lemmas.List.{length-map, get_or-map, take_more, length-append, get_or_append_left, get_or_at}
+use Rattle.std.proofs.lemmas.List.Elements.{All-get_or, All-head, All-tail, All-weaker}
 use Rattle.std.proofs.lemmas.Option.{same_Some, none-some, slice_get_within}
-use Rattle.tower_types.specs.Ty.{Ty, scalar, array, rec, Name, Fields, Records, NamesBelow, nesting, Shape, many, all, no_shapes, shapes_of, shape_in, shape_of, shape_of_fields, table_of, words, depth, words_of_all, depth_of_all}
+use Rattle.tower_types.specs.Ty.{Ty, scalar, array, rec, Name, Fields, Records, NamesBelow, nesting, Shape, many, all, no_shapes, shapes_of, shape_in, shape_of, shape_of_fields, table_of, words, depth}
 use Rattle.tower_types.specs.Records.{IsTypeAmong, AreOrdered}
 use Rattle.tower_types.specs.View.{ty_of, ty_step, fields_of, value_of, all_values_of}
 use Rattle.tower_types.specs.declared.value.Value.{Value as ValueValue}

@@ -1,8 +1,8 @@
 -- The states of a monitor with the texts of their values.
-use Rattle.std.proofs.Common.{◌≡◌, ℕ, ◌+◌, ◌-◌, ◌^◌, ◌<◌, ◌≤◌, min, ℤ, List, [], ◌∷◌, length, map, take, drop, get_or, sym, ap, ◌∙◌, arith}
+use Rattle.std.proofs.Common.{◌≡◌, ℕ, ◌^◌, ◌<◌, min, ℤ, List, length, take, drop, get_or, sym, ap, ◌∙◌, arith}
 use Rattle.std.specs.List.{zip}
 use Rattle.std.proofs.lemmas.List.{length-map}
-use Rattle.tower_types.specs.Ty.{Ty, Name, Records, shape_of, shapes_of, words}
+use Rattle.tower_types.specs.Ty.{Name, Records, shape_of, shapes_of, words}
 use Rattle.tower_types.specs.Records.{saturated}
 use Rattle.tower_types.specs.View.{ty_of, fields_of, value_of, all_values_of}
 use Rattle.tower_types.specs.declared.value.Value.{Value as ValueValue}

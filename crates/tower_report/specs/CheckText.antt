@@ -1,5 +1,5 @@
 -- The text that tells of an accepted file. Sources are numbers here.
-use Rattle.std.specs.Prelude.{ℕ, List, [], ◌∷◌, ◌++◌, flat_map, length, codes, decimal}
+use Rattle.std.specs.Prelude.{ℕ, [], ◌∷◌, ◌++◌, flat_map, length, codes, decimal}
 use Rattle.tower_syntax.specs.Arch.{Arch}
 use Rattle.tower_syntax.specs.Weights.{cost, memory, code, source_numbers}
 use Rattle.arch_checks.specs.Offences.{source_name}

@@ -6,7 +6,7 @@ use Rattle.tower_syntax.specs.Arch.{Arch, Source}
 use Rattle.tower_syntax.specs.Graph.{numbers_before}
 use Rattle.tower_syntax.specs.Weights.{states_of}
 use Rattle.tower_syntax.specs.WellNumbered.{has_depth}
-use Rattle.task_code.specs.Machine.{Machine, Lock, Free, HeldBy}
+use Rattle.task_code.specs.Machine.{Machine, Lock, Free}
 use Rattle.tower_report.specs.Bytes.{Bytes, line}
 use Rattle.tower_report.specs.ValueText.{texts_of_words, shapes_in}
 

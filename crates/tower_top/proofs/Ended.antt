@@ -1,5 +1,5 @@
 -- How a run has ended, with its whole text.
-use Rattle.std.proofs.Common.{◌≡◌, ℕ, List, [], ◌++◌, Option, None, Bool, true, false, refl, sym, ap, ◌∙◌, subst}
+use Rattle.std.proofs.Common.{◌≡◌, ℕ, List, [], ◌++◌, Option, None, Bool, true, false, sym, ap, ◌∙◌, subst}
 use Rattle.tower_io.specs.declared.answers.Put.{Put}
 use Rattle.tower_io.specs.declared.answers.Put.TheVariants as put
 use Rattle.tower_syntax.specs.Arch.{Arch, Events}
@@ -14,7 +14,7 @@ use Rattle.tower_report.proofs.Puts.{Puts-then, Puts-fail, Puts-stop, Puts-same}
 use Rattle.task_build.specs.CodeOf.{code_of}
 use Rattle.tower_top.specs.Small.{Small, arch_of}
 use Rattle.tower_top.specs.Answers.{RunEnds, step_limit, events_of, small_run_text, small_run_stops}
-use Rattle.tower_top.specs.Going.{whole, planned_text, HasEnded, Halts, ran_of}
+use Rattle.tower_top.specs.Going.{whole, planned_text, HasEnded, ran_of}
 use Rattle.tower_top.specs.declared.run.Ran.{Ran}
 use Rattle.tower_top.specs.declared.run.Ran.TheVariants as ran
 

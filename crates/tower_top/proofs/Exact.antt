@@ -1,11 +1,11 @@
 -- A file with a fault is never answered as an accepted one, nor the other way round.
-use Rattle.std.proofs.Common.{◌≡◌, ℕ, List, [], ◌∷◌, ◌⊎◌, inl, inr, length, get_or, Option, Some, sym, ap, ◌∙◌, subst, arith}
+use Rattle.std.proofs.Common.{◌≡◌, ℕ, List, [], inl, inr, length, get_or, Option, Some, sym, ap, ◌∙◌, subst, arith}
 use Rattle.std.specs.Prelude.{IfSome}
 use Rattle.arch_checks.specs.declared.fault.Fault.{Fault}
 use Rattle.arch_checks.specs.Offences.{IsFault, IsAccepted}
 use Rattle.tower_syntax.specs.Arch.{Arch}
 use Rattle.tower_top.specs.declared.status.Status.TheVariants as status
-use Rattle.tower_top.specs.Words.{AsksCheck, AsksRun, AsksWith}
+use Rattle.tower_top.specs.Words.{AsksCheck, AsksWith}
 use Rattle.tower_top.specs.Answers.{Held, IsHeld, IsDue, refused, checks, not_yet, runs}
 
 pub same_file : (words : List (List ℕ)) (a b : List ℕ) → AsksWith words a → AsksWith words b → a ≡ b

@@ -1,15 +1,14 @@
 -- A small file's run never meets the limit of instructions: each message costs few, and few come.
-use Rattle.std.proofs.Common.{◌≡◌, ◌≤◌, ◌<◌, ◌+◌, ◌-◌, ◌*◌, ℕ, zero, suc, ℤ, pos, List, [], ◌∷◌, ◌++◌, map, length, Option, Some, None, Bool, true, false, refl, sym, ap, ◌∙◌, subst, arith, slice_get, slice_set, slice_index_or, replicate, length-append, cond, append-nil}
+use Rattle.std.proofs.Common.{◌≡◌, ◌≤◌, ◌<◌, ◌+◌, ◌*◌, ℕ, zero, suc, ℤ, pos, List, [], ◌∷◌, ◌++◌, map, length, Option, Some, None, Bool, true, false, refl, sym, ap, ◌∙◌, subst, arith, slice_get, slice_set, slice_index_or, replicate, length-append, cond}
 use Rattle.std.specs.Prelude.{fold, drop, slice_index}
 use Rattle.std.proofs.lemmas.Option.{same_Some}
 use Rattle.tower_types.specs.Value.{Value, flat, word}
 use Rattle.tower_syntax.specs.declared.event.Mark.{Mark}
 use Rattle.tower_syntax.specs.declared.event.Mark.TheVariants as mark
 use Rattle.tower_syntax.specs.Arch.{Entry, tick, Events}
-use Rattle.tower_syntax.specs.Arrival.{ticks, is_due, brought}
+use Rattle.tower_syntax.specs.Arrival.{ticks}
 use Rattle.tower_meaning.specs.Atomic.{Fit, FitsEntry}
 use Rattle.task_code.specs.Program.{Program}
-use Rattle.task_code.specs.Own.{Own}
 use Rattle.task_code.specs.Does.{Does, Stuck, Private, Takes, Locks, Unlocks, Writes}
 use Rattle.task_code.specs.Machine.{Machine, next_does, queue, bring, received, after}
 use Rattle.task_code.specs.Standing.{Standing, IsStuck, IsIdle, IsWaiting, IsReady, standing, standing_of, at_queue, held_back}
@@ -19,10 +18,9 @@ use Rattle.task_code.specs.Plan.{Planned, goes, comes, step_of, Planning, plan, 
 use Rattle.task_build.specs.CodeOf.{code_of}
 use Rattle.tower_report.proofs.Steps.{instructions_append}
 use Rattle.tower_top.specs.Small.{Small, IsValid, arch_of}
-use Rattle.tower_top.specs.Ticks.{tick_entries}
 use Rattle.tower_top.specs.Answers.{events_of, step_limit, small_run_stops}
 use Rattle.tower_top.proofs.Quiet.{ready_within}
-use Rattle.tower_top.proofs.RunFacts.{steps_push, came_within, after_place, came_place}
+use Rattle.tower_top.proofs.RunFacts.{steps_push, came_within, came_place}
 use Rattle.tower_top.proofs.SmallSound.{small_sound}
 
 -- how many of the steps are instructions

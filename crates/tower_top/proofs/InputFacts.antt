@@ -1,5 +1,5 @@
 -- The text that a shelf holds, after a fetch.
-use Rattle.std.proofs.Common.{◌≡◌, ◌<◌, ◌≤◌, ◌+◌, ◌^◌, ℕ, List, [], ◌∷◌, ◌++◌, ◌⊎◌, inl, inr, ⊎_elim, length, take, Option, Some, None, refl, sym, ap, arith, length-take, length-append, codes, decimal}
+use Rattle.std.proofs.Common.{◌≡◌, ◌<◌, ◌≤◌, ◌+◌, ℕ, List, [], ◌∷◌, ◌++◌, ◌⊎◌, inl, inr, ⊎_elim, length, take, Option, Some, None, refl, sym, ap, arith, length-take, length-append, codes, decimal}
 use Rattle.std.specs.Prelude.{IfSome}
 use Rattle.std.proofs.lemmas.Fmt.{length-decimal-le}
 use Rattle.tower_reader.specs.declared.fault.ReadFault.{ReadFault}
@@ -7,7 +7,6 @@ use Rattle.tower_reader.specs.declared.fault.ReadFault.TheVariants as fault
 use Rattle.tower_reader.specs.Faults.{TextOffends, Precedes, IsFault}
 use Rattle.tower_top.specs.Answers.{IsNoTicks}
 use Rattle.tower_top.specs.Small.{IsNotSmall}
-use Rattle.tower_top.specs.Ticks.{IsTicks}
 
 pub told : (o : Option (List ℕ)) (xs : List ℕ) → IfSome o (λ t. xs ≡ t) → IfSome o (λ t. t ≡ xs)
 told None xs h = h

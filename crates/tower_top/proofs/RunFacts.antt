@@ -1,5 +1,5 @@
 -- A run, step by step: what is left of its plan.
-use Rattle.std.proofs.Common.{◌≡◌, ◌≤◌, ◌<◌, ◌+◌, ◌-◌, ℕ, zero, suc, List, [], ◌∷◌, ◌++◌, map, length, Option, Some, None, Bool, true, false, ◌||◌, ◌&&◌, not, refl, sym, ap, ◌∙◌, subst, arith, slice_get, append_assoc, append-nil}
+use Rattle.std.proofs.Common.{◌≡◌, ◌<◌, ◌+◌, ◌-◌, ℕ, zero, suc, List, [], ◌∷◌, ◌++◌, map, length, Option, Some, None, Bool, true, false, ◌||◌, refl, sym, ap, ◌∙◌, subst, arith, slice_get, append_assoc, append-nil}
 use Rattle.std.proofs.lemmas.Option.{slice_get_within, same_Some}
 use Rattle.tower_syntax.specs.Arch.{Entry, Events}
 use Rattle.tower_syntax.specs.Arrival.{is_full, brought, ticks}
@@ -11,7 +11,7 @@ use Rattle.std.specs.Prelude.{ℤ, cond, fold, slice_set, slice_index, slice_ind
 use Rattle.task_code.specs.Standing.{Standing, IsStuck, IsIdle, IsWaiting, IsReady, standing, is_finished}
 use Rattle.task_code.specs.Run.{Run, Turn, Event, step, steps_from, first_run, if_ready, turned, came}
 use Rattle.task_code.specs.Policy.{fixed}
-use Rattle.task_code.specs.Plan.{Planned, goes, comes, step_of, Planning, plan, to_end, unchosen, any_ready, picked, has_ended, turns_left, go, go_with, instruct, stepped, enter, entered, instructions}
+use Rattle.task_code.specs.Plan.{Planned, goes, comes, step_of, Planning, unchosen, any_ready, picked, has_ended, go, go_with, instruct, stepped, enter, entered}
 use Rattle.tower_report.proofs.Steps.{instructions_append}
 use Rattle.tower_top.specs.Going.{Goes, onward, turns_of, whole}
 

@@ -1,19 +1,19 @@
 -- The program of a small file is sound.
-use Rattle.std.proofs.Common.{◌≡◌, ◌≤◌, ◌<◌, ◌+◌, ℕ, zero, suc, ℤ, pos, true, false, List, [], ◌∷◌, length, Option, Some, None, refl, sym, ap, ap₂, subst, arith, slice_get, replicate, Bool, ◌&&◌, lt-ltb}
+use Rattle.std.proofs.Common.{◌≡◌, ◌≤◌, ◌<◌, ◌+◌, ℕ, zero, suc, ℤ, pos, true, false, List, [], ◌∷◌, length, Some, None, refl, sym, ap₂, subst, arith, Bool, ◌&&◌, lt-ltb}
 use Rattle.std.specs.Prelude.{All}
 use Rattle.std.proofs.lemmas.Bool.{le-leb}
 use Rattle.std.proofs.lemmas.Option.{same_Some, none-some}
 use Rattle.tower_types.specs.declared.scalar.Scalar.TheVariants.{U32, I64}
 use Rattle.tower_types.specs.declared.scalar.BinOp.TheVariants.{Add}
-use Rattle.tower_types.specs.Value.{Value, word, parts, Values, no_values, value, flat, fits_scalar}
+use Rattle.tower_types.specs.Value.{Value, word, parts, no_values, value, flat, fits_scalar}
 use Rattle.tower_types.specs.Arithmetic.{binary_of}
 use Rattle.tower_syntax.specs.declared.arch.Listener.TheVariants as to
 use Rattle.tower_syntax.specs.Arch.{Arch, Source}
 use Rattle.tower_meaning.specs.System.{Item}
 use Rattle.task_code.specs.declared.program.Task.{Task}
 use Rattle.task_code.specs.Program.{Program}
-use Rattle.task_code.specs.Own.{Own, Held, first_own}
-use Rattle.task_code.specs.Does.{Takes, laid, does}
+use Rattle.task_code.specs.Own.{Own, first_own}
+use Rattle.task_code.specs.Does.{laid}
 use Rattle.task_code.specs.Leads.{at}
 use Rattle.task_code.proofs.Leads as leads
 use Rattle.task_build.specs.CodeOf.{code_of, task_of}
@@ -22,7 +22,7 @@ use Rattle.tower_syntax.specs.WellNumbered.{IsWellNumbered, AreNumberedFields, I
 use Rattle.tower_syntax.specs.Typed.{IsTyped, HasItsMessage, IsProperType, AreProperFields, IsTypedHandler, AreTypedStmts, no_names}
 use Rattle.tower_syntax.specs.Weights.{scope_of}
 use Rattle.tower_syntax.specs.Graph.{handler}
-use Rattle.lock_reduction.specs.Alone.{State, Asks, Safe, RunsAlone, first_state}
+use Rattle.lock_reduction.specs.Alone.{Asks, Safe, first_state}
 use Rattle.lock_reduction.specs.Shaped.{Shaped, BeginsWithTake}
 use Rattle.lock_reduction.specs.Reduce.{setting_of, Alone, Sound}
 use Rattle.lock_reduction.proofs.Instance.{reduced}

@@ -1,5 +1,5 @@
 -- How a call ends after each of its parts.
-use Rattle.std.proofs.Common.{◌≡◌, ◌<◌, ◌≤◌, ℕ, List, [], ◌⊎◌, inl, inr, Option, Bool, true, false, refl, sym, ap, ◌∙◌, subst, arith}
+use Rattle.std.proofs.Common.{◌≡◌, ◌<◌, ◌≤◌, ℕ, List, [], inl, inr, Option, Bool, false, refl, sym, ◌∙◌, arith}
 use Rattle.std.proofs.lemmas.Bool.{false≢true}
 use Rattle.tower_io.specs.declared.answers.Put.{Put}
 use Rattle.tower_io.specs.declared.answers.Put.TheVariants as put
@@ -8,10 +8,10 @@ use Rattle.tower_io.specs.Sinks.{Adds, AddsPrefix, OnDone, OnPutFailed}
 use Rattle.tower_report.specs.Puts.{Puts}
 use Rattle.tower_report.specs.Bytes.{Bytes}
 use Rattle.tower_top.specs.declared.status.Status.{Status}
-use Rattle.tower_top.specs.declared.status.Status.TheVariants.{Done, Refused, Usage, ReadFault, WriteFault, NoMemory, BadInput, Stopped}
+use Rattle.tower_top.specs.declared.status.Status.TheVariants.{Done, ReadFault, WriteFault}
 use Rattle.tower_top.specs.declared.run.Ran.{Ran}
 use Rattle.tower_top.specs.declared.run.Ran.TheVariants as ran
-use Rattle.tower_top.specs.Answers.{Held, Taken, Count, Gets, GetsPrefix, HasRisen, IsDue, IsUnread, IsToWrite, due, unread, unread_line, Answers, FailsToRead, FailsToWrite, Ends, RunEnds, status_after, status_of_ran}
+use Rattle.tower_top.specs.Answers.{Held, Taken, Count, Gets, GetsPrefix, HasRisen, IsDue, IsUnread, due, unread, unread_line, Answers, Ends, RunEnds, status_after, status_of_ran}
 
 -- where a count grew, the put failed
 pub grown : {S : Type 0} {w : S → Option (List ℕ)} {f : S → ℕ} {a b : S} {text : Bytes} (r : Put) (s : Status) → Puts w f a b text r → f a < f b → status_after r s ≡ WriteFault

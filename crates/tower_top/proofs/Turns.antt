@@ -1,5 +1,5 @@
 -- The turns of a run.
-use Rattle.std.proofs.Common.{◌≡◌, ◌≤◌, ◌<◌, ◌+◌, ◌-◌, ℕ, zero, suc, List, [], ◌∷◌, ◌++◌, map, length, Option, Some, None, Bool, true, false, refl, sym, ap, ◌∙◌, subst, arith, slice_get, add-zero}
+use Rattle.std.proofs.Common.{◌≡◌, ◌≤◌, ◌<◌, ◌+◌, ◌-◌, ℕ, suc, List, [], ◌∷◌, ◌++◌, map, length, Option, Some, None, Bool, true, false, refl, sym, ap, ◌∙◌, subst, arith, slice_get, add-zero}
 use Rattle.std.specs.List.{list_any}
 use Rattle.tower_io.specs.declared.answers.Put.{Put}
 use Rattle.tower_io.specs.declared.answers.Put.TheVariants as put
@@ -9,7 +9,7 @@ use Rattle.tower_syntax.specs.declared.event.Events.{Events as EventsValue}
 use Rattle.tower_syntax.specs.View.{events_of as events_in}
 use Rattle.task_code.specs.Program.{Program}
 use Rattle.task_code.specs.Machine.{Machine, first_machine, next_does, after, received}
-use Rattle.task_code.specs.Standing.{Standing, IsReady, standing, is_finished}
+use Rattle.task_code.specs.Standing.{IsReady, standing, is_finished}
 use Rattle.task_code.specs.Run.{Run, Turn, Event, step, steps_from, first_run, if_ready, turned, came}
 use Rattle.task_code.specs.Policy.{fixed}
 use Rattle.task_code.specs.Plan.{Planned, goes, comes, step_of, Planning, any_ready, picked, instructions}

@@ -1,5 +1,5 @@
 -- What a call of `tower` answers and writes.
-use Rattle.std.specs.Prelude.{◌≡◌, ◌⊎◌, ◌<◌, ℕ, List, [], ◌∷◌, ◌++◌, Option, None, IfSome, codes, Bool, true, false}
+use Rattle.std.specs.Prelude.{◌≡◌, ◌⊎◌, ℕ, List, [], ◌∷◌, Option, None, IfSome, codes, Bool, true, false}
 use Rattle.tower_syntax.specs.declared.arch.SourceKind.TheVariants.{Period}
 use Rattle.tower_syntax.specs.Arch.{Arch, Events}
 use Rattle.tower_io.specs.declared.answers.Put.{Put}

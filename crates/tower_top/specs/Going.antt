@@ -1,12 +1,12 @@
 -- A run of a program by the rule `fixed` that is going on, with the text that it has put.
-use Rattle.std.specs.Prelude.{◌≡◌, ℕ, ◌+◌, ◌-◌, ◌<◌, List, [], ◌∷◌, map, Option, Some, None, Bool, true, false, cond, length}
+use Rattle.std.specs.Prelude.{◌≡◌, ℕ, ◌+◌, ◌-◌, ◌<◌, List, [], map, Option, Some, None, Bool, true, false, cond, length}
 use Rattle.tower_syntax.specs.declared.event.Mark.{Mark}
 use Rattle.tower_syntax.specs.Arch.{Arch, Events}
 use Rattle.tower_io.specs.declared.answers.Put.{Put}
 use Rattle.tower_io.specs.declared.answers.Put.TheVariants as put
 use Rattle.task_code.specs.Program.{Program}
 use Rattle.task_code.specs.Machine.{Machine, first_machine}
-use Rattle.task_code.specs.Run.{Run, first_run, steps_from}
+use Rattle.task_code.specs.Run.{first_run, steps_from}
 use Rattle.task_code.specs.Policy.{fixed, priorities}
 use Rattle.task_code.specs.Plan.{Planned, step_of, Planning, plan, to_end, turns_left, instructions}
 use Rattle.tower_report.specs.Bytes.{Bytes}

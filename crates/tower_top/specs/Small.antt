@@ -1,5 +1,5 @@
 -- The small files: one period, and one monitor whose one handler adds to its one state.
-use Rattle.std.specs.Prelude.{◌≡◌, ◌≢◌, ℕ, ◌^◌, ◌<◌, ◌≤◌, List, [], ◌∷◌, ◌++◌, length, map, pos, true, None, codes, decimal}
+use Rattle.std.specs.Prelude.{◌≡◌, ◌≢◌, ℕ, ◌≤◌, List, [], ◌∷◌, length, map, pos, true, None, codes, decimal}
 use Rattle.tower_types.specs.declared.scalar.Scalar.TheVariants.{U32, I64}
 use Rattle.tower_types.specs.declared.scalar.BinOp.TheVariants.{Add}
 use Rattle.tower_types.specs.Ty.{scalar, Name}

@@ -1,4 +1,4 @@
-use Rattle.std.proofs.Common.{◌≡◌, ◌∙◌, sym, ap, rules}
+use Rattle.std.proofs.Common.{◌≡◌, ◌∙◌, ap, rules}
 use Rattle.std.specs.Prelude.{not, decimal}
 use Rattle.tower_report.proofs.Puts.{Puts-none, Puts-same, Puts-answer}
 use Rattle.tower_report.proofs.Lookups.{none_lost, some_lost}

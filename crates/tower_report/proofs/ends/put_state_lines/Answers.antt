@@ -1,8 +1,6 @@
-use Rattle.std.proofs.Common.{◌≡◌, ◌<◌, ◌≤◌, ◌+◌, ◌∙◌, sym, ap, [], ◌∷◌, length, map, take, drop, get_or, rules, arith, subst}
+use Rattle.std.proofs.Common.{◌≡◌, ◌∙◌, sym, ap, drop, arith}
 use Rattle.std.specs.List.{zip}
-use Rattle.std.proofs.lemmas.List.{length-map}
-use Rattle.std.proofs.lemmas.List.Elements.{All-get_or}
-use Rattle.tower_types.specs.Ty.{Ty, Name, shape_of, shapes_of, words, depth}
+use Rattle.tower_types.specs.Ty.{Ty, Name, shape_of, shapes_of, words}
 use Rattle.tower_types.specs.View.{ty_of, fields_of}
 use Rattle.tower_report.specs.EndText.{state_line}
 use Rattle.tower_report.specs.ValueText.{words_text, texts_of_words, shapes_in}

@@ -1,4 +1,4 @@
-use Rattle.std.proofs.Common.{◌≡◌, [], ◌∷◌, take, ap, arith}
+use Rattle.std.proofs.Common.{[], ◌∷◌, take, ap, arith}
 use Rattle.std.specs.Prelude.{codes}
 use Rattle.tower_report.specs.Bytes.{Bytes, spaced}
 use Rattle.tower_report.proofs.Puts.{Puts-then, Puts-fail, Puts-stop, Puts-same, Puts-err}

@@ -1,4 +1,4 @@
-use Rattle.std.proofs.Common.{◌≡◌, List, [], ◌∷◌, ap}
+use Rattle.std.proofs.Common.{List, [], ◌∷◌, ap}
 use Rattle.std.specs.Prelude.{codes, decimal}
 use Rattle.tower_report.specs.Bytes.{Bytes, line}
 use Rattle.tower_report.specs.FaultText.{round}

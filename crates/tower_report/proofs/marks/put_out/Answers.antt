@@ -1,8 +1,6 @@
-use Rattle.std.proofs.Common.{◌≡◌, ◌∙◌, sym, ap, [], ◌∷◌, rules, arith}
-use Rattle.std.specs.Prelude.{codes}
-use Rattle.tower_types.specs.Ty.{shape_of, depth, words}
+use Rattle.std.proofs.Common.{◌∙◌, sym, ap}
+use Rattle.tower_types.specs.Ty.{shape_of}
 use Rattle.tower_types.specs.View.{ty_of}
-use Rattle.tower_report.specs.MarkText.{output_shape}
 use Rattle.tower_report.proofs.Puts.{Puts-answer, Puts-same}
 use Rattle.tower_report.proofs.Lookups.{output_name_at, output_shape_at, out_line_same}
 use Rattle.tower_report.proofs.marks.put_out.Goals as goal

@@ -1,4 +1,4 @@
-use Rattle.tower_report.proofs.Puts.{Puts-then, Puts-fail, Puts-err}
+use Rattle.tower_report.proofs.Puts.{Puts-fail, Puts-err}
 use Rattle.tower_report.proofs.pieces.put_line.Goals as goal
 
 pub returns-in_err-put_piece : goal.returns-in_err-put_piece

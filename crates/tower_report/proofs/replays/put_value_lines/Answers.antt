@@ -1,4 +1,4 @@
-use Rattle.std.proofs.Common.{◌≡◌, ◌<◌, ◌≤◌, length, arith}
+use Rattle.std.proofs.Common.{arith}
 use Rattle.std.specs.List.{zip}
 use Rattle.tower_types.specs.Ty.{Ty, Name, shape_of, shapes_of}
 use Rattle.tower_types.specs.View.{ty_of, fields_of, value_of, all_values_of}

@@ -1,4 +1,4 @@
-use Rattle.std.proofs.Common.{◌≡◌, ◌<◌, ◌≤◌, length, get_or, List, [], arith, rules, refl, ap, sym, ◌∙◌}
+use Rattle.std.proofs.Common.{◌<◌, length, [], arith, rules, refl, ap, sym, ◌∙◌}
 use Rattle.tower_types.specs.declared.ty.Ty.TheVariants.{Array}
 use Rattle.tower_types.specs.Ty.{shape_of, depth}
 use Rattle.tower_types.specs.View.{ty_of, fields_of}

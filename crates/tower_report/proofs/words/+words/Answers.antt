@@ -1,8 +1,8 @@
-use Rattle.std.proofs.Common.{◌≡◌, ◌<◌, ◌≤◌, length, map, take, drop, List, [], refl, arith, rules, sym, ap, ◌∙◌}
+use Rattle.std.proofs.Common.{◌≡◌, ◌<◌, ◌≤◌, length, map, take, drop, [], refl, arith, rules, sym, ap, ◌∙◌}
 use Rattle.tower_types.specs.declared.ty.Ty.TheVariants.{Array}
 use Rattle.tower_types.specs.Ty.{shape_of, shapes_of, words, depth}
 use Rattle.tower_types.specs.View.{ty_of, fields_of}
-use Rattle.tower_report.specs.ValueText.{words_text, texts_of_words, cut, shapes_in, shapes_words}
+use Rattle.tower_report.specs.ValueText.{words_text, texts_of_words, cut, shapes_in}
 use Rattle.tower_report.proofs.Puts.{Puts-then, Puts-fail, Puts-stop, Puts-same, Puts-err}
 use Rattle.tower_report.proofs.Bracketed.{Puts-unopened, Puts-unfilled, Puts-unclosed, Puts-brackets}
 use Rattle.tower_report.proofs.Spaced.{Puts-item, Puts-part, Puts-items}

@@ -1,4 +1,4 @@
-use Rattle.std.proofs.Common.{rules, ◌≡◌, ◌+◌, ◌≤◌, ◌++◌, ℕ, sym, ◌∙◌, take, drop, length, arith, length-take}
+use Rattle.std.proofs.Common.{rules, ◌≤◌, ◌++◌, sym, take, drop, length, arith, length-take}
 use Rattle.tower_top.proofs.FileFacts.{long_told, next_told, went_well}
 use Rattle.tower_top.proofs.file.read_on.Goals as goal
 

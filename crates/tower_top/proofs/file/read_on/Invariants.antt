@@ -1,4 +1,4 @@
-use Rattle.std.proofs.Common.{◌≡◌, ◌+◌, ◌-◌, ◌≤◌, ℕ, List}
+use Rattle.std.proofs.Common.{◌≡◌, ◌-◌, ◌≤◌, ℕ, List}
 use Rattle.tower_io.specs.Shelves.{Takes}
 use Rattle.tower_top.specs.File.{HasTaken}
 use Rattle.tower_top.proofs.file.read_on.Given as goal

@@ -1,4 +1,4 @@
-use Rattle.std.proofs.Common.{◌≡◌, sym, subst}
+use Rattle.std.proofs.Common.{sym, subst}
 use Rattle.arch_checks.specs.Offences.{IsFault}
 use Rattle.arch_checks.proofs.Order.{read_fault}
 use Rattle.tower_top.proofs.inputs.read_checked.Goals as goal

@@ -1,23 +1,19 @@
-use Rattle.std.proofs.Common.{◌≡◌, ◌≤◌, ◌<◌, ◌+◌, ◌-◌, ℕ, zero, suc, List, [], ◌∷◌, ◌++◌, map, length, Option, Some, None, Bool, true, false, refl, sym, ap, ◌∙◌, subst, arith, slice_get}
+use Rattle.std.proofs.Common.{◌≡◌, ◌<◌, ◌+◌, ℕ, suc, List, [], ◌∷◌, length, Option, Some, None, Bool, true, false, refl, sym, ap, ◌∙◌, subst, arith, slice_get}
 use Rattle.std.specs.List.{list_any}
 use Rattle.tower_syntax.specs.View.{events_of as events_in}
 use Rattle.tower_syntax.specs.declared.event.Mark.{Mark}
 use Rattle.tower_syntax.specs.declared.event.Mark.TheVariants as mark
-use Rattle.tower_syntax.specs.Arch.{Arch, Entry, Events}
+use Rattle.tower_syntax.specs.Arch.{Arch, Entry}
 use Rattle.tower_io.specs.declared.answers.Put.{Put}
-use Rattle.tower_report.specs.Bytes.{Bytes}
 use Rattle.tower_report.specs.MarkText.{mark_line}
 use Rattle.tower_report.specs.Puts.{Puts}
-use Rattle.task_code.specs.Program.{Program}
 use Rattle.task_code.specs.Policy.{fixed, fixed_names, priorities}
 use Rattle.task_code.specs.Plan.{picked}
 use Rattle.task_code.specs.Run.{mark_of}
 use Rattle.task_code.specs.Standing.{IsReady, is_finished}
 use Rattle.task_machine.specs.Lawful.{fixed_is_lawful}
 use Rattle.task_machine.specs.Policy.{IsLawful}
-use Rattle.task_machine.specs.declared.machine.Went.{Went}
 use Rattle.task_machine.specs.declared.machine.Went.TheVariants as went
-use Rattle.task_machine.specs.declared.machine.Came.{Came}
 use Rattle.task_machine.specs.declared.machine.Came.TheVariants as came
 use Rattle.task_machine.specs.State.{State, Goes, Comes, ready, holds, turned, arrived, first_of, does_next, standing_in, next_entry}
 use Rattle.tower_top.specs.Answers.{step_limit}

@@ -1,6 +1,5 @@
-use Rattle.std.proofs.Common.{◌≡◌, ℕ, length, refl, sym, ap, ◌∙◌, subst}
+use Rattle.std.proofs.Common.{length, refl, sym, ap, ◌∙◌, subst}
 use Rattle.tower_syntax.specs.View.{events_of as events_in}
-use Rattle.tower_syntax.specs.declared.event.Events.{Events as EventsValue}
 use Rattle.task_code.specs.Program.{Program}
 use Rattle.task_code.specs.Policy.{priorities}
 use Rattle.tower_top.specs.Answers.{step_limit}

@@ -1,4 +1,4 @@
-use Rattle.std.proofs.Common.{◌≡◌, ap, sym, ◌∙◌, decimal, arith, eq-eqb}
+use Rattle.std.proofs.Common.{ap, sym, ◌∙◌, decimal, arith, eq-eqb}
 use Rattle.std.proofs.lemmas.Bool.{eqb-true}
 use Rattle.std.proofs.lemmas.Fmt.{decimal_injective}
 use Rattle.tower_top.proofs.small.is_number.Goals as goal

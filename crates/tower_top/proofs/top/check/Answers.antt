@@ -1,4 +1,4 @@
-use Rattle.std.proofs.Common.{◌≡◌, ◌∙◌, inl, sym, subst, []}
+use Rattle.std.proofs.Common.{◌∙◌, inl, sym, subst}
 use Rattle.tower_io.proofs.Adding.{Adds_none}
 use Rattle.tower_report.specs.CheckText.{check_text}
 use Rattle.tower_report.specs.FaultText.{fault_line}

@@ -1,4 +1,4 @@
-use Rattle.std.proofs.Common.{◌≡◌, inr, sym, ap, ◌∙◌, subst, codes, [], refl}
+use Rattle.std.proofs.Common.{inr, sym, ◌∙◌, subst}
 use Rattle.tower_io.proofs.Adding.{Adds_none}
 use Rattle.tower_io.specs.Faults.{Rose}
 use Rattle.tower_report.specs.FaultText.{fault_line}

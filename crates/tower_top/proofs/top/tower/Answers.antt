@@ -1,4 +1,4 @@
-use Rattle.std.proofs.Common.{[], map, string_bytes, refl}
+use Rattle.std.proofs.Common.{map, string_bytes, refl}
 use Rattle.tower_io.proofs.Adding.{Adds_none}
 use Rattle.tower_top.specs.declared.status.Status.TheVariants as status
 use Rattle.tower_top.specs.Answers.{no_command, usage_line}

@@ -1,5 +1,4 @@
-use Rattle.std.proofs.Common.{map, string_bytes, ◌≡◌, ℕ, ◌<◌, ◌≤◌, sym, ap, ◌∙◌, refl, length, get_or, List, [], ◌∷◌, arith, codes}
-use Rattle.std.specs.declared.string.String.{String}
+use Rattle.std.proofs.Common.{map, string_bytes, ◌≡◌, ℕ, ◌<◌, ◌≤◌, sym, ap, ◌∙◌, length, get_or, List, [], ◌∷◌, arith, codes}
 use Rattle.std.specs.Cmp.Lexicographic.{same_text}
 use Rattle.tower_top.specs.Words.{AsksRun}
 use Rattle.tower_top.proofs.words.asked_run.Goals as goal
