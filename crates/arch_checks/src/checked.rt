@@ -16,7 +16,7 @@ use tower_types::NoMemory;
 #[derive(Drop)]
 pub struct Checked {
     arch: Arch,
-    /// What a message of each source costs at most, in instructions.
+    /// The cost weight of each source, in instructions.
     costs: Items<u64>,
     memory: u64,
     code: u64,
@@ -69,7 +69,7 @@ impl Checked {
         &self.arch
     }
 
-    /// How many instructions a message of source `source` takes at most.
+    /// The cost weight of source `source`, in instructions.
     pub fn cost(&self, source: u32) -> u64
         requires { source < length self.now.sources }
         ensures { result ≡ cost self.now source }

@@ -12,7 +12,7 @@ use Rattle.tower_syntax.specs.Graph.{handler, leads, same_on}
 use Rattle.tower_syntax.specs.WellNumbered.{AreListeners}
 use Rattle.channel_graph.specs.declared.reach.Start.TheVariants as start
 use Rattle.channel_graph.specs.Reaching.{Follows, begins, goes}
-use Rattle.channel_graph.specs.Circuit.{walk_round, LeadsBack}
+use Rattle.channel_graph.specs.Circuit.{walk_round}
 use Rattle.channel_graph.specs.Ranked.{rank}
 use Rattle.channel_graph.specs.Levels.{channel_level, AreFrom, IsFromOn, Ascends}
 use Rattle.channel_graph.proofs.Members.{In}

@@ -15,7 +15,7 @@ use Rattle.channel_graph.specs.Reaching.{is_on, IsMarked, AreOpen}
 use Rattle.channel_graph.specs.Reaching.{Follows, begins as first, goes as further}
 use Rattle.channel_graph.specs.Circuit.{walk_round, found_at, shown_at}
 use Rattle.channel_graph.specs.Settled.{IsSettled, IsQuiet, IsSourceWithin, Blots, AreSpared, AreClear}
-use Rattle.channel_graph.proofs.Members.{In, In-from_contains, has_any}
+use Rattle.channel_graph.proofs.Members.{In-from_contains, has_any}
 use Rattle.channel_graph.proofs.Linked.{link_of, sub_is_on}
 use Rattle.channel_graph.proofs.Searched.{marked_set, set_marked, none_marked, open_has}
 use Rattle.channel_graph.proofs.Closed.{listed_is_reached}

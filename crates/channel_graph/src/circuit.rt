@@ -28,7 +28,7 @@ pub struct CycleFound {
 }
 
 /// Whether handler `k` leads to handler `j`.
-fn is_led(arch: &Arch, k: u32, j: u32) -> bool
+fn leads_to(arch: &Arch, k: u32, j: u32) -> bool
     requires first { k < length arch.now.handlers }
     requires second { j < length arch.now.handlers }
     requires listed { AreListeners arch.now }
@@ -120,7 +120,7 @@ fn least_nearer(arch: &Arch, ranks: &[u64], n: u64, k: u32) -> u32
     let most = n + 1;
     for j in 0..arch.handlers().len() {
         let rank = ranks[j];
-        if 0 < rank && rank <= most && is_led(arch, k, j as u32) {
+        if 0 < rank && rank <= most && leads_to(arch, k, j as u32) {
             return j as u32;
         }
     }

@@ -1,7 +1,7 @@
 //! What one message of each source costs, or 2^64 - 1 where it costs more. Handlers that lead into no cycle are taken
-//! behind those to which they lead, and one round that changes none of their costs shows that these are right. Where a
-//! source leads into a cycle it goes round by round, each time with all that follows through one link more, until a
-//! round changes nothing.
+//! behind those to which they lead, and one round that changes none of their costs shows that these are right. Where
+//! it changes one, or a source leads into a cycle, it goes round by round, each time with all that follows through one
+//! link more, until a round changes nothing.
 
 ghost use Rattle.std.specs.Prelude.{◌≡◌, ◌<◌, ℕ, length, map, sum, true, All, IfOk, IfSome};
 ghost use Rattle.tower_types.specs.Records.{saturated};

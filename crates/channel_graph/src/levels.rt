@@ -60,7 +60,8 @@ impl Search {
         Ok(true)
     }
 
-    /// Goes on until it has left all that it has seen. So many steps are enough.
+    /// Goes on until it has left all that it has seen, in at most so many steps. As many as there are nodes and links
+    /// are enough.
     fn run(&mut self, ahead: &[Items<usize>], steps: usize) -> Result<(), NoMemory> {
         for _step in 0..steps {
             if !self.step(ahead)? {

@@ -11,7 +11,7 @@ use std::alloc::Global;
 use tower_syntax::{Handler, Stmt};
 use tower_types::NoMemory;
 
-/// What stood at a place of the totals.
+/// What stood at a place of the totals, before a change or at its peak.
 #[derive(Clone, Copy)]
 struct Noted {
     place: u32,

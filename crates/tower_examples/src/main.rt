@@ -1,5 +1,4 @@
-//! Writes what `towerc check` tells of each example, of files that have just as much as they may have and of those that
-//! have one more, and of files with several faults.
+//! Writes what `towerc check` tells of each example, of files at a limit and above it, and of files with several faults.
 #![tactic(auto)]
 
 use std::alloc::{AllocError, Global};
@@ -8,7 +7,7 @@ use tower_io::{FileShelf, Put, Shelf, Sink, WriteSink};
 use tower_top::{Status, tower};
 
 /// The files. They lie in the folder in which the program runs.
-const FILES: [&str; 29] = [
+const FILES: [&str; 38] = [
     "burst.tower",
     "clock.tower",
     "dia.tower",
@@ -33,6 +32,15 @@ const FILES: [&str; 29] = [
     "bound_2.tower",
     "bound_0.tower",
     "work.tower",
+    "chain_100.tower",
+    "chain_101.tower",
+    "words_4097.tower",
+    "memory_1048576.tower",
+    "memory_1048577.tower",
+    "code_1000000.tower",
+    "code_1000002.tower",
+    "work_1000000000.tower",
+    "work_1000000002.tower",
     "type_before_bound.tower",
     "bound_before_cycle.tower",
     "cycle_before_size.tower",

@@ -27,7 +27,7 @@ pub fn small_runs_end()
     ensures { (s : Small) → (n : ℕ) → IsValid s → n ≤ 100 → small_run_stops s n ≡ false }
 {}
 
-/// Each small file is accepted, as the system that it says. So `check` and `run` are never to answer `Refused` to it.
+/// Each small file is accepted, as the system that it says. Where a shelf tells its text, `Refused` is never due.
 pub fn small_files_are_accepted()
     ensures accepted { (text : List ℕ) → (s : Small) → Spells text s → IsAccepted text (arch_of s) }
     ensures answered { (held : Held) → (words : List (List ℕ)) → (file text : List ℕ) → (s : Small) → AsksWith words file → held file ≡ Some text → Spells text s → (out err : List ℕ) → IsDue held words Refused out err → ⊥ }

@@ -8,8 +8,8 @@ use Rattle.channel_graph.proofs.Members.{number_below}
 use Rattle.channel_graph.proofs.Shortest.{find_at, find_none}
 use Rattle.channel_graph.proofs.circuit.least_nearer.Goals as goal
 
-pub returns-then-is_led-clause-value : goal.returns-then-is_led-clause-value
-returns-then-is_led-clause-value c =
+pub returns-then-leads_to-clause-value : goal.returns-then-leads_to-clause-value
+returns-then-leads_to-clause-value c =
     let arch = c.args.arch.now in
     let ranks = c.args.ranks.now in
     let j = c.loop-j.j in
@@ -17,7 +17,7 @@ returns-then-is_led-clause-value c =
     let low : 0 < rank ranks j = c.if-rank-gt0.true in
     let high : rank ranks j ≤ c.args.n + 1 = c.if-rank-most.true in
     let here : (leads arch c.args.k j && (nat_lt 0 (rank ranks j) && nat_le (rank ranks j) (c.args.n + 1))) ≡ true =
-    and_from (leads arch c.args.k j) (nat_lt 0 (rank ranks j) && nat_le (rank ranks j) (c.args.n + 1)) (sym c.if-is_led.ensures)
+    and_from (leads arch c.args.k j) (nat_lt 0 (rank ranks j) && nat_le (rank ranks j) (c.args.n + 1)) (sym c.if-leads_to.ensures)
     (and_from (nat_lt 0 (rank ranks j)) (nat_le (rank ranks j) (c.args.n + 1)) (lt-ltb 0 (rank ranks j) low) (le-leb (rank ranks j) (c.args.n + 1) high)) in
     sym (ap (λ o. unwrap_or o c.args.k) (find_at (λ i. leads arch c.args.k i && (nat_lt 0 (rank ranks i) && nat_le (rank ranks i) (c.args.n + 1))) (length arch.handlers) j below c.loop-j.invariant here))
 

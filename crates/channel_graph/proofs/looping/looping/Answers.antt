@@ -1,9 +1,5 @@
-use Rattle.std.proofs.Common.{◌≡◌, ◌<◌, length, true, false, arith, ap, subst, sym, ◌∙◌, refl}
+use Rattle.std.proofs.Common.{sym, ◌∙◌}
 use Rattle.std.proofs.lemmas.Bool.{false≢true}
-use Rattle.std.proofs.lemmas.List.{length-map}
-use Rattle.tower_syntax.specs.View.{handler_of}
-use Rattle.channel_graph.specs.Circuit.{walk_round}
-use Rattle.channel_graph.specs.Levels.{Ascends}
 use Rattle.channel_graph.proofs.Rounds.{looping_more}
 use Rattle.channel_graph.proofs.Leveled.{below_none, not_false}
 use Rattle.channel_graph.proofs.looping.looping.Goals as goal

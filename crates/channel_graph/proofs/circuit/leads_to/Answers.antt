@@ -1,6 +1,6 @@
 use Rattle.std.proofs.Common.{◌∙◌}
 use Rattle.channel_graph.proofs.Led.{led_source, led_channel}
-use Rattle.channel_graph.proofs.circuit.is_led.Goals as goal
+use Rattle.channel_graph.proofs.circuit.leads_to.Goals as goal
 
 pub returns-in-Source : goal.returns-in-Source
 returns-in-Source c = led_source c.args.arch.now c.args.k c.args.j c.handler.result.now c.in-Source.field-0 c.requires.listed c.handler.ensures.value c.in-Source.is
