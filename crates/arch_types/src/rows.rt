@@ -68,7 +68,7 @@ pub fn read_row<'a>(place: TypedPlace<'a>) -> TypedExpr<'a>
     }
 }
 
-/// An operation on one number, which stands at an offset.
+/// An operation on one operand, which stands at an offset.
 pub fn un_row<'a>(
     alloc: Global,
     names: &[Name],
@@ -87,7 +87,7 @@ pub fn un_row<'a>(
     })
 }
 
-/// An operation on two numbers, each with its offset.
+/// An operation on two operands, each with its offset.
 pub fn bin_row<'a>(
     alloc: Global,
     names: &[Name],
@@ -110,7 +110,7 @@ pub fn bin_row<'a>(
     })
 }
 
-/// A choice between two numbers; each expression with its offset.
+/// A choice between two scalars; each expression with its offset.
 pub fn choose_row<'a>(
     alloc: Global,
     names: &[Name],
