@@ -60,8 +60,8 @@ pub fn literal<'a>(at: u32, scalar: Scalar, value: i128) -> Result<TypedExpr<'a>
 pub fn read_row<'a>(place: TypedPlace<'a>) -> TypedExpr<'a>
     ensures { expr_in result ≡ read_row (place_in place.entry) }
 {
-    let TypedPlace { root, steps, ty } = place;
-    let place = Place { root, steps };
+    let ty = place.ty;
+    let place = place.place();
     TypedExpr {
         tree: Expr::Read(place),
         ty,
