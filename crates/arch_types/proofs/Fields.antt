@@ -3,23 +3,16 @@ use Rattle.std.proofs.Common.{◌≡◌, ℕ, zero, suc, ◌+◌, ◌<◌, ◌�
 use Rattle.std.specs.Option.{option_map, option_or}
 use Rattle.std.proofs.lemmas.List.{take_more, take_all, length-map, map-append}
 use Rattle.std.proofs.lemmas.Option.{none-some, same_Some, slice_get-map, slice_get-get_or, slice_get_within, get_or_from_slice_get, slice_get_past}
-use Rattle.std.proofs.lemmas.Slice.Eq.{bytes_eq-Decides}
-use Rattle.std.proofs.lemmas.Bool.{false≢true}
-use Rattle.std.specs.Cmp.Lexicographic.{bytes_decides}
+use Rattle.std.specs.Cmp.Lexicographic.{nat_list_eq_equiv}
 use Rattle.tower_types.specs.Ty.{Ty, Name, Fields, Records}
 use Rattle.tower_types.specs.View.{ty_of, fields_of}
 use Rattle.tower_types.specs.declared.ty.Ty.{Ty as TyValue}
-use Rattle.arch_types.proofs.Same.{not_true}
-use Rattle.arch_types.proofs.Finding.{find-append}
+use Rattle.arch_types.proofs.Finding.{find-append, bytes_same}
 use Rattle.arch_types.specs.Places.{Places, same, find, place_in}
 use Rattle.arch_types.specs.Typing.{field_in, field_of, if_found, one_later}
 
 same_bytes : (a b : Name) → bytes_eq a b ≡ same b a
-same_bytes a b = by (same b a) refl
-  where
-    by : (r : Bool) → same b a ≡ r → bytes_eq a b ≡ r
-    by true h = (bytes_eq-Decides a b).1 (sym ((bytes_decides b a).0 h))
-    by false h = not_true (bytes_eq a b) (λ k. false≢true (sym h ∙ (bytes_decides b a).1 (sym ((bytes_eq-Decides a b).0 k))))
+same_bytes a b = bytes_same a b ∙ nat_list_eq_equiv.symm a b
 
 -- ---- the places of some fields, and of one more
 

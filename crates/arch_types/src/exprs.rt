@@ -175,7 +175,7 @@ fn check_cast<'a>(
     Ok(made)
 }
 
-/// An expression behind which names may be bound.
+/// An expression with its type copied, because names are bound while the type is still needed.
 pub fn keep_expr(
     alloc: Global,
     system: &System,

@@ -29,7 +29,7 @@ impl<'a> TypeRef<'a> {
         }
     }
 
-    /// The type of an array's elements.
+    /// The type of an array's elements, and any other type itself.
     pub fn element(self) -> TypeRef<'a>
         ensures { type_in result ≡ element_of (type_in self.entry) }
     {
@@ -39,7 +39,7 @@ impl<'a> TypeRef<'a> {
         }
     }
 
-    /// The scalar of a type that is one.
+    /// The scalar of a type that is one, and `bool` of any other.
     pub fn scalar(self) -> Scalar
         ensures { result ≡ scalar_in (type_in self.entry) }
     {

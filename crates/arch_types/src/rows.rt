@@ -60,15 +60,15 @@ pub fn literal<'a>(at: u32, scalar: Scalar, value: i128) -> Result<TypedExpr<'a>
 pub fn read_row<'a>(place: TypedPlace<'a>) -> TypedExpr<'a>
     ensures { expr_in result ≡ read_row (place_in place.entry) }
 {
-    let TypedPlace { root, steps, ty } = place;
-    let place = Place { root, steps };
+    let ty = place.ty;
+    let place = place.place();
     TypedExpr {
         tree: Expr::Read(place),
         ty,
     }
 }
 
-/// An operation on one number, which stands at an offset.
+/// An operation on one operand, which stands at an offset.
 pub fn un_row<'a>(
     alloc: Global,
     names: &[Name],
@@ -87,7 +87,7 @@ pub fn un_row<'a>(
     })
 }
 
-/// An operation on two numbers, each with its offset.
+/// An operation on two operands, each with its offset.
 pub fn bin_row<'a>(
     alloc: Global,
     names: &[Name],
@@ -110,7 +110,7 @@ pub fn bin_row<'a>(
     })
 }
 
-/// A choice between two numbers; each expression with its offset.
+/// A choice between two scalars; each expression with its offset.
 pub fn choose_row<'a>(
     alloc: Global,
     names: &[Name],

@@ -156,13 +156,15 @@ fn check_set(
     ensures { Gives (λ c. stmt_in c bound.now) (walked (known system.now scope.now bound.now) (set 0 (named_place_of place.now) (named_expr_of value.now))) result }
 {
     let to = check_place(alloc, system, scope, bound, place)?;
-    let high = high_place(place);
     match check_expr(alloc, system, scope, bound, value) {
         Ok(from) => {
             let made = set_row(alloc, system, scope, bound, place, value, to, from)?;
             Ok(made)
         }
-        Err(fault) => Err(earlier(high, fault)),
+        Err(fault) => {
+            let high = high_place(place);
+            Err(earlier(high, fault))
+        }
     }
 }
 
@@ -206,13 +208,15 @@ fn check_copy(
     ensures { Gives (λ c. stmt_in c bound.now) (walked (known system.now scope.now bound.now) (copy 0 (named_place_of place.now) (named_place_of value.now))) result }
 {
     let to = check_place(alloc, system, scope, bound, place)?;
-    let high = high_place(place);
     match check_place(alloc, system, scope, bound, value) {
         Ok(from) => {
             let made = copy_row(alloc, system, scope, bound, place, value, to, from)?;
             Ok(made)
         }
-        Err(fault) => Err(earlier(high, fault)),
+        Err(fault) => {
+            let high = high_place(place);
+            Err(earlier(high, fault))
+        }
     }
 }
 

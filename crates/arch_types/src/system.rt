@@ -9,17 +9,18 @@ ghost use Rattle.arch_types.specs.Seen.{type_in};
 
 use crate::lent::TypeRef;
 use crate::listeners::next;
-use indexmap::IndexMap;
 use sqlite_items::Items;
 use std::alloc::Global;
+use std::collections::BTreeMap;
 use std::marker::Model;
 use tower_syntax::ArchParts;
 use tower_types::{Name, NoMemory, Records, Ty};
 
-/// The names of a record's fields, each with the place of the first field of that name.
+/// The names of a record's fields, each with the place of the first field of that name. They stand in a tree, so that
+/// no choice of names makes a look-up slow.
 #[derive(Drop)]
 struct FieldPlaces {
-    places: IndexMap<Vec<u8>, u32>,
+    places: BTreeMap<Vec<u8>, u32>,
 }
 
 impl Model for FieldPlaces {
@@ -38,7 +39,7 @@ impl FieldPlaces {
         ensures { result ≡ [] }
     {
         FieldPlaces {
-            places: IndexMap::new(alloc),
+            places: BTreeMap::new(alloc),
         }
     }
 

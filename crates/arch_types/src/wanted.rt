@@ -33,7 +33,7 @@ pub fn operand(op: BinOp) -> Asked
     }
 }
 
-/// What an operation on one number asks of it.
+/// What an operation on one operand asks of it.
 pub fn only_operand(op: UnOp) -> Asked
     ensures { view result ≡ wanted_one op }
 {
