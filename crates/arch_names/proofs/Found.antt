@@ -1,7 +1,6 @@
--- A set of names as a map from texts, and what is found in a longer one.
-use Rattle.std.proofs.Common.{if◌then◌else◌, ◌≡◌, Bool, true, false, cond, List, [], ◌∷◌, ◌++◌, map, Option, Some, None, refl, sym, ap, ◌∙◌, true≢false, is_some}
+-- What is found in a longer set of names.
+use Rattle.std.proofs.Common.{◌≡◌, Bool, true, false, cond, List, [], ◌∷◌, ◌++◌, Option, Some, None, refl, sym, ap, ◌∙◌, true≢false, is_some}
 use Rattle.std.specs.Option.{option_or}
-use Rattle.indexmap.specs.IndexMap.{insert_entry}
 use Rattle.std.specs.Map.{lookup}
 use Rattle.std.specs.Cmp.Lexicographic.{bytes_decides}
 use Rattle.tower_types.specs.Ty.{Name}
@@ -19,18 +18,6 @@ lookup-append test (e ∷ es) fs = by (test e.0) (lookup-append test es fs)
 pub find-append : {T : Type 0} (es fs : Names T) (n : Name) → find (es ++ fs) n ≡ option_or (find es n) (find fs n)
 find-append es fs n = lookup-append (same n) es fs
 
-module _ {K X : Type 0} (of : K → Name) where
-  abbrev pub seen : List (K × X) → List (Name × X)
-  seen es = map (λ e. (of e.0, e.1)) es
-
-  pub lookup_seen : (es : List (K × X)) (n : Name) → lookup (λ k. same n (of k)) es ≡ lookup (same n) (seen es)
-  lookup_seen [] n = refl
-  lookup_seen (e ∷ es) n = ap (λ r. cond (same n (of e.0)) (Some e.1) r) (lookup_seen es n)
-
-  pub seen-append : (es fs : List (K × X)) → seen (es ++ fs) ≡ seen es ++ seen fs
-  seen-append [] fs = refl
-  seen-append (e ∷ es) fs = ap (λ r. (of e.0, e.1) ∷ r) (seen-append es fs)
-
 -- a second declaration changes nothing
 pub find_present : {T : Type 0} (es : Names T) (x : Name) (d : Declared T) → is_some (find es x) ≡ true → find es ≡ find (es ++ (x, d) ∷ [])
 find_present {T} es x d there = let h : (n : Name) → find es n ≡ find (es ++ (x, d) ∷ []) n = λ n. by n (find es n) refl ∙ sym (find-append es ((x, d) ∷ []) n) in λ i n. h n i
@@ -42,33 +29,3 @@ find_present {T} es x d there = let h : (n : Name) → find es n ≡ find (es ++
     by : (n : Name) (r : Option (Declared T)) → find es n ≡ r → find es n ≡ option_or (find es n) (find ((x, d) ∷ []) n)
     by n (Some y) e = e ∙ sym (ap (λ r. option_or r (find ((x, d) ∷ []) n)) e)
     by n None e = e ∙ sym (ap (λ r. option_or r (find ((x, d) ∷ []) n)) e ∙ other n (same n x) refl e)
-
-module _ {K T : Type 0} (of : K → Name) (es : List (K × Declared T)) (names : Names T) (sees : seen of es ≡ names) (b n : Name) (is : b ≡ n) where
-  pub found : lookup (λ k. same b (of k)) es ≡ find names n
-  found = lookup_seen of es b ∙ (λ i. find (sees i) (is i))
-
-  -- the map that has the name already
-  pub stays : (d : Declared T) (c : Bool) → c ≡ true → c ≡ is_some (lookup (λ k. same b (of k)) es) → find names ≡ find (names ++ (n, d) ∷ [])
-  stays d c there e = find_present names n d (sym (ap is_some found) ∙ sym e ∙ there)
-
-  pub never : {A : Type 0} (c : Bool) → c ≡ true → c ≡ is_some (lookup (λ k. same b (of k)) es) → find names n ≡ None → A
-  never {A} c there e none = absurd (true≢false (sym there ∙ e ∙ ap is_some (found ∙ none)))
-
-none_of : {X : Type 0} (r : Option X) → is_some r ≡ false → r ≡ None
-none_of None e = refl
-none_of (Some x) e = absurd (true≢false e)
-
-module _ {K T : Type 0} (of : K → Name) where
-  pub insert_absent : (es : List (K × Declared T)) (k : K) (d : Declared T) → lookup (λ q. same (of k) (of q)) es ≡ None → insert_entry (λ p q. same (of p) (of q)) es k d ≡ es ++ (k, d) ∷ []
-  insert_absent [] k d none = refl
-  insert_absent (e ∷ es) k d none = by (insert_absent es k d) (same (of k) (of e.0)) refl
-    where
-      by : (lookup (λ q. same (of k) (of q)) es ≡ None → insert_entry (λ p q. same (of p) (of q)) es k d ≡ es ++ (k, d) ∷ []) → (b : Bool) → same (of k) (of e.0) ≡ b → (if same (of k) (of e.0) then (e.0, d) ∷ es else e ∷ insert_entry (λ p q. same (of p) (of q)) es k d) ≡ (e ∷ es) ++ (k, d) ∷ []
-      by h true c = absurd (true≢false (ap is_some (sym (ap (λ b. cond b (Some e.1) (lookup (λ q. same (of k) (of q)) es)) c) ∙ none)))
-      by h false c = ap (λ b. if b then (e.0, d) ∷ es else e ∷ insert_entry (λ p q. same (of p) (of q)) es k d) c ∙ ap (λ r. e ∷ r) (h (sym (ap (λ b. cond b (Some e.1) (lookup (λ q. same (of k) (of q)) es)) c) ∙ none))
-
-  -- the map that has it not, with the key in place of the text
-  pub put : (es : List (K × Declared T)) (names : Names T) → seen of es ≡ names → (b n : Name) → b ≡ n → (c : Bool) → c ≡ false → c ≡ is_some (lookup (λ q. same b (of q)) es) → (k : K) → of k ≡ b → (d : Declared T) (new : List (K × Declared T)) → new ≡ insert_entry (λ p q. same (of p) (of q)) es k d → seen of new ≡ names ++ (n, d) ∷ []
-  put es names sees b n is c none e k key d new made =
-      let absent : lookup (λ q. same (of k) (of q)) es ≡ None = none_of _ (ap (λ t. is_some (lookup (λ q. same t (of q)) es)) key ∙ sym e ∙ none) in
-      ap (seen of) (made ∙ insert_absent es k d absent) ∙ seen-append of es ((k, d) ∷ []) ∙ (λ i. sees i ++ ((key ∙ is) i, d) ∷ [])

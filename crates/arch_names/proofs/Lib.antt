@@ -12,3 +12,4 @@ pub mod Whole
 pub mod Places
 pub mod StmtRows
 pub mod StmtWalk
+pub mod Trees

@@ -1,5 +1,6 @@
 pub mod Names
 pub mod Sets
+pub mod Trees
 pub mod Site
 pub mod Sites
 pub mod Linked

@@ -1,10 +1,11 @@
 //! The names that are declared in one set.
-ghost use Rattle.std.specs.Prelude.{◌≡◌, ◌++◌, ◌∷◌, [], None, OnOk, length, take, ◌<◌, ◌^◌};
+ghost use Rattle.std.specs.Prelude.{◌≡◌, ◌++◌, ◌∷◌, [], None, OnOk, length, take, ◌<◌, ◌-◌, ◌^◌};
 ghost use Rattle.arch_names.specs.Names.{find};
 
 use crate::fault::Sort;
-use indexmap::IndexMap;
+use sqlite_items::Items;
 use std::alloc::Global;
+use std::collections::BTreeMap;
 use std::marker::Model;
 use tower_syntax::Target;
 use tower_types::{Name, NoMemory};
@@ -16,19 +17,23 @@ pub struct Declared<T> {
     pub what: T,
 }
 
-/// The names of a set with their first declarations, in the order of these.
+/// The names of a set with their first declarations, in the order of these. The tree finds each of them by its name,
+/// whatever the names are, in time that grows as the logarithm of their number.
 #[derive(Drop)]
 pub struct Names<T> {
-    declared: IndexMap<Vec<u8>, Declared<T>>,
+    order: Items<(Name, Declared<T>)>,
+    tree: BTreeMap<Vec<u8>, Declared<T>>,
 }
 
 impl<T> Model for Names<T> {
-    ghost use Rattle.std.specs.Prelude.{map};
     ghost use Rattle.arch_names.specs.Names.{Names as Entries};
+    ghost use Rattle.arch_names.specs.Trees.{Finds};
 
     ghost Value = { Entries T };
 
-    ghost view = { λ n. map (λ e. (e.0.items, e.1)) n.declared.entries };
+    ghost view = { λ n. n.order };
+
+    ghost invariant = { λ n. Finds (λ k. k.items) n.tree.entries n.order };
 }
 
 impl<T: Copy> Names<T> {
@@ -37,7 +42,8 @@ impl<T: Copy> Names<T> {
         ensures { result ≡ [] }
     {
         Names {
-            declared: IndexMap::new(alloc),
+            order: Items::new(alloc),
+            tree: BTreeMap::new(alloc),
         }
     }
 
@@ -45,14 +51,14 @@ impl<T: Copy> Names<T> {
     pub fn len(&self) -> usize
         ensures { result ≡ length self.now }
     {
-        self.declared.len()
+        self.order.len()
     }
 
     /// The first declaration of a name.
     pub fn get(&self, name: &Name) -> Option<Declared<T>>
         ensures { result ≡ find self.now name.now }
     {
-        self.declared.get(name.bytes()).copied()
+        self.tree.get(name.bytes()).copied()
     }
 
     /// Declares a name. A declaration that it has already stays.
@@ -65,19 +71,38 @@ impl<T: Copy> Names<T> {
         ensures ok { OnOk result (find self.new ≡ find (self.old ++ (name.now, declared) ∷ [])) }
         ensures fresh { OnOk result (find self.old name.now ≡ None → self.new ≡ self.old ++ (name.now, declared) ∷ []) }
     {
-        if self.declared.contains_key(name.bytes()) {
+        if self.tree.contains_key(name.bytes()) {
             return Ok(());
         }
         let key = Vec::from_slice(alloc, name.bytes())?;
-        self.declared.insert(key, declared)?;
-        Ok(())
+        let copy = name.copy(alloc)?;
+        self.order.push((copy, declared))?;
+        match self.tree.insert(key, declared) {
+            Ok(_) => Ok(()),
+            Err(_) => {
+                let _ = self.order.pop();
+                Err(NoMemory)
+            }
+        }
     }
 
     /// Forgets all names but the first `len`.
     pub fn truncate(&mut self, len: usize)
         ensures { self.new ≡ take len self.old }
     {
-        self.declared.truncate(len);
+        while self.len() > len {
+            self.forget_last();
+        }
+    }
+
+    /// Forgets the last name.
+    fn forget_last(&mut self)
+        requires { 0 < length self.old }
+        ensures { self.new ≡ take (length self.old - 1) self.old }
+    {
+        if let Some((name, _)) = self.order.pop() {
+            let _ = self.tree.remove(name.bytes());
+        }
     }
 }
 
