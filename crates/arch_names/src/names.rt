@@ -17,8 +17,8 @@ pub struct Declared<T> {
     pub what: T,
 }
 
-/// The names of a set with their first declarations, in the order of these. The tree finds each of them by its name,
-/// whatever the names are, in time that grows as the logarithm of their number.
+/// The names of a set with their first declarations, in the order of these, and a tree that finds each by its name. It
+/// is no hash table, since the names of a file can be chosen to collide in one.
 #[derive(Drop)]
 pub struct Names<T> {
     order: Items<(Name, Declared<T>)>,
