@@ -16,10 +16,10 @@ use Rattle.task_code.specs.Does.{Does, Stuck, Private, Takes, Locks, Unlocks, Wr
 use Rattle.task_code.specs.Machine.{Lock, Free, HeldBy, task_does, queue}
 use Rattle.task_code.specs.Standing.{IsStuck, IsIdle, IsReady, is_clear, inits_clear, kind_at, held_back, at_queue, at_lock, standing_of, standing}
 use Rattle.task_code.specs.Run.{Run}
-use Rattle.lock_reduction.specs.Setting.{Setting, KeepsTypes, IsFor, Fits, FitItems}
-use Rattle.lock_reduction.specs.Alone.{FirstIsOf, Asks, Safe}
+use Rattle.task_alone.specs.Setting.{Setting, KeepsTypes, IsFor, Fits, FitItems}
+use Rattle.task_alone.specs.Alone.{FirstIsOf, Asks, Safe}
 use Rattle.lock_reduction.specs.Sound.{Agrees, IsWithin}
-use Rattle.lock_reduction.proofs.Lists.{get_unmap, get_within}
+use Rattle.task_alone.proofs.Lists.{get_unmap, get_within}
 use Rattle.lock_reduction.proofs.Barrier.{clear_all, init_clears}
 use Rattle.lock_reduction.proofs.Kept.{Keeps, does_keeps, at_takes, at_locks, at_writes}
 use Rattle.lock_reduction.proofs.Invariant.{LockFits, TaskFits, Invariant}

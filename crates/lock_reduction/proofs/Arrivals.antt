@@ -9,8 +9,8 @@ use Rattle.tower_meaning.specs.Atomic.{Atomic}
 use Rattle.tower_meaning.specs.Atomic as meaning
 use Rattle.task_code.specs.Machine.{Lock, Machine, queue}
 use Rattle.task_code.specs.Machine as machine
-use Rattle.lock_reduction.specs.Setting.{Setting}
-use Rattle.lock_reduction.proofs.Lists.{after_set, get_or_map, all_of_queue}
+use Rattle.task_alone.specs.Setting.{Setting}
+use Rattle.task_alone.proofs.Lists.{after_set, get_or_map, all_of_queue}
 
 -- each waiting message fits its source
 abbrev pub QueuedFit : Setting → List (List Value) → Type 0

@@ -18,12 +18,13 @@ use Rattle.task_code.specs.Own.{Own}
 use Rattle.task_code.specs.Leads.{Leads, at}
 use Rattle.task_code.specs.WorkedListing.{counter, counter_task}
 use Rattle.task_code.proofs.Leads as leads
-use Rattle.lock_reduction.specs.Setting.{Setting}
-use Rattle.lock_reduction.specs.Alone.{Safe, first_state}
-use Rattle.lock_reduction.specs.Visits.{Visits, Unlocking, with_lock_of, Section}
+use Rattle.task_alone.specs.Setting.{Setting}
+use Rattle.task_alone.specs.Alone.{Safe, first_state}
+use Rattle.task_alone.specs.Visits.{Visits, Unlocking, with_lock_of, Section}
 use Rattle.lock_reduction.specs.Shaped.{Shaped, BeginsWithTake}
-use Rattle.lock_reduction.specs.Reduce.{setting_of, Alone, Sound}
-use Rattle.lock_reduction.proofs.Visits.{leading, handling, serving, Serves}
+use Rattle.lock_reduction.specs.Reduce.{Alone, Sound}
+use Rattle.task_alone.specs.SettingOf.{setting_of}
+use Rattle.task_alone.proofs.Visits.{leading, handling, serving, Serves}
 use Rattle.lock_reduction.proofs.Instance.{reduced}
 
 -- ---- the system is typed and well numbered

@@ -12,9 +12,10 @@ use Rattle.tower_meaning.specs.Atomic.{Fit}
 use Rattle.tower_meaning.proofs.KeepsTypes.{keeps_types, brings_fitting}
 use Rattle.task_code.specs.declared.program.Task.{Task}
 use Rattle.task_code.specs.Program.{Program}
-use Rattle.lock_reduction.specs.Setting.{Setting, KeepsTypes, IsFor, Fits}
+use Rattle.task_alone.specs.Setting.{Setting, KeepsTypes, IsFor, Fits}
 use Rattle.lock_reduction.specs.Shaped.{Shaped, priority_and_words}
-use Rattle.lock_reduction.specs.Reduce.{setting_of, Alone, Sound}
+use Rattle.lock_reduction.specs.Reduce.{Alone, Sound}
+use Rattle.task_alone.specs.SettingOf.{setting_of}
 use Rattle.lock_reduction.proofs.Start.{reached_keeps}
 use Rattle.lock_reduction.proofs.Agree.{agrees, counts_fit}
 

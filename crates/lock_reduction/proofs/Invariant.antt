@@ -14,10 +14,10 @@ use Rattle.task_code.specs.Program.{Program}
 use Rattle.task_code.specs.Own.{Own, held_monitor}
 use Rattle.task_code.specs.Machine.{Lock, Free, HeldBy}
 use Rattle.task_code.specs.Run.{Run}
-use Rattle.lock_reduction.specs.Setting.{Setting, FitItems}
-use Rattle.lock_reduction.specs.Alone.{FirstIsOf, Safe}
+use Rattle.task_alone.specs.Setting.{Setting, FitItems}
+use Rattle.task_alone.specs.Alone.{FirstIsOf, Safe}
 use Rattle.lock_reduction.specs.Sound.{IsWithin, LastHolds}
-use Rattle.lock_reduction.proofs.Lists.{get_set_same, get_set_other}
+use Rattle.task_alone.proofs.Lists.{get_set_same, get_set_other}
 use Rattle.lock_reduction.proofs.Arrivals.{QueuedFit}
 
 -- the lock that task x holds, as the run and the replay have it

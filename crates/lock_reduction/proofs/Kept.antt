@@ -9,7 +9,7 @@ use Rattle.task_code.specs.Program.{Program}
 use Rattle.task_code.specs.Own.{Filled, Held, Own, held_monitor, empty_buffer}
 use Rattle.task_code.specs.Does.{Does, Stuck, Private, Takes, Locks, Unlocks, Writes, need, popped, returned, indexed, without_lock, with_lock, with_buffer, at_zero, executes, executes_at, does, is_take, at_take}
 use Rattle.lock_reduction.specs.Sound.{IsWithin}
-use Rattle.lock_reduction.proofs.Lists.{after_set}
+use Rattle.task_alone.proofs.Lists.{after_set}
 
 -- `take` is whether the instruction is TAKE
 pub data Keeps (table : List Buffer) (own : Own) (take : Bool) : Does → Type 0 where

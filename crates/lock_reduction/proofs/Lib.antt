@@ -1,4 +1,3 @@
-pub mod Lists
 pub mod Kept
 pub mod Arrivals
 pub mod Barrier
@@ -7,6 +6,4 @@ pub mod Turns
 pub mod Start
 pub mod Agree
 pub mod Instance
-pub mod Rules
-pub mod Visits
 pub mod Counter

@@ -15,11 +15,11 @@ use Rattle.task_code.specs.Program.{Program}
 use Rattle.task_code.specs.Own.{first_own}
 use Rattle.task_code.specs.Machine.{Free, HeldBy, first_queue}
 use Rattle.task_code.specs.Run.{Run, Step, step, steps_from, first_run, reached}
-use Rattle.lock_reduction.specs.Setting.{Setting, KeepsTypes, IsFor, Fits}
-use Rattle.lock_reduction.specs.Alone.{RunsAlone}
+use Rattle.task_alone.specs.Setting.{Setting, KeepsTypes, IsFor, Fits}
+use Rattle.task_alone.specs.Alone.{RunsAlone}
 use Rattle.lock_reduction.proofs.Arrivals.{QueuedFit}
 use Rattle.lock_reduction.proofs.Kept.{empty_within}
-use Rattle.lock_reduction.proofs.Lists.{get_map, get_unmap, get_within}
+use Rattle.task_alone.proofs.Lists.{get_map, get_unmap, get_within}
 use Rattle.lock_reduction.proofs.Invariant.{TaskFits, Invariant}
 use Rattle.lock_reduction.proofs.Turns.{step_keeps, unlike, same_words}
 

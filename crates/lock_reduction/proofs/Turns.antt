@@ -23,9 +23,9 @@ use Rattle.task_code.specs.Machine.{Lock, Free, HeldBy, Machine, task_does, next
 use Rattle.task_code.specs.Machine as machine
 use Rattle.task_code.specs.Standing.{is_clear, inits_clear, kind_at, held_back, at_queue, at_lock, standing_of}
 use Rattle.task_code.specs.Run.{Run, Step, Turn, Event, turned, if_ready, came, step}
-use Rattle.lock_reduction.specs.Setting.{Setting, KeepsTypes, IsFor, Fits, FitItems}
-use Rattle.lock_reduction.specs.Alone.{FirstIsOf, Asks, WriteAsks, UnlockAsks, Safe}
-use Rattle.lock_reduction.proofs.Lists.{get_set_same, get_set_other, get_map, get_unmap, get_within, after_set, after_set_apart, queue_there}
+use Rattle.task_alone.specs.Setting.{Setting, KeepsTypes, IsFor, Fits, FitItems}
+use Rattle.task_alone.specs.Alone.{FirstIsOf, Asks, WriteAsks, UnlockAsks, Safe}
+use Rattle.task_alone.proofs.Lists.{get_set_same, get_set_other, get_map, get_unmap, get_within, after_set, after_set_apart, queue_there}
 use Rattle.lock_reduction.proofs.Arrivals.{all_received}
 use Rattle.lock_reduction.proofs.Barrier.{clear_at, done_all, clear_of_init}
 use Rattle.lock_reduction.proofs.Kept.{Keeps, does_keeps, at_private, at_takes, at_locks, at_unlocks, at_writes, TakesOrSticks, sticks, takes_then, take_or_stuck}

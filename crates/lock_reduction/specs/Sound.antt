@@ -15,8 +15,9 @@ use Rattle.task_code.specs.Does.{Locks, does}
 use Rattle.task_code.specs.Machine.{Free, HeldBy, queue}
 use Rattle.task_code.specs.Standing.{IsStuck, IsIdle, IsReady, standing}
 use Rattle.task_code.specs.Run.{Run, Step, reached}
-use Rattle.lock_reduction.specs.Setting.{Setting, Fits}
-use Rattle.lock_reduction.specs.Alone.{FirstIsOf, HoldLists, buffers_at}
+use Rattle.task_alone.specs.Setting.{Setting, Fits}
+use Rattle.task_alone.specs.Alone.{FirstIsOf}
+use Rattle.task_code.specs.Holds.{HoldLists, buffers_at}
 
 -- no buffer holds more than its bound
 abbrev pub IsWithin : List Buffer → List Filled → Type 0

@@ -4,8 +4,8 @@
 ghost use Rattle.tower_syntax.specs.Typed.{IsTyped};
 ghost use Rattle.tower_syntax.specs.WellNumbered.{IsWellNumbered};
 ghost use Rattle.task_code.specs.Program.{Program as ProgramLists};
-ghost use Rattle.lock_reduction.specs.Setting.{Setting, KeepsTypes, IsFor};
-ghost use Rattle.lock_reduction.specs.Alone.{RunsAlone};
+ghost use Rattle.task_alone.specs.Setting.{Setting, KeepsTypes, IsFor};
+ghost use Rattle.task_alone.specs.Alone.{RunsAlone};
 ghost use Rattle.lock_reduction.specs.Sound.{IsSound};
 ghost use Rattle.lock_reduction.specs.Shaped.{Shaped};
 ghost use Rattle.lock_reduction.specs.Reduce.{Alone, Sound};

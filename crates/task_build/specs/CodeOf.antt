@@ -7,13 +7,32 @@ use Rattle.tower_syntax.specs.declared.arch.Listener.TheVariants as to
 use Rattle.tower_syntax.specs.Arch.{Arch, Source, Emitter}
 use Rattle.tower_syntax.specs.Graph.{handler, subs, reached_by}
 use Rattle.tower_syntax.specs.Weights.{message_words, emitter_words, channel_message, monitor_words}
-use Rattle.task_code.specs.declared.program.Instr.TheVariants.{Ld, St, Jmp, Call, Take}
+use Rattle.task_code.specs.declared.program.Instr.TheVariants.{Ld, St, Jmp, Call, Ret, Take}
 use Rattle.task_code.specs.declared.program.Buffer.{Buffer}
 use Rattle.task_code.specs.declared.program.Task.{Task}
 use Rattle.task_code.specs.Program.{Program}
-use Rattle.task_build.specs.Piece.{Piece, nil, ins, ◌▸◌, end, listed, joined}
-use Rattle.task_build.specs.Frame.{Frame, frames_from, end_of}
-use Rattle.task_build.specs.Delivery.{Entry, entry_of, handler_code}
+use Rattle.task_code.specs.Piece.{Piece, nil, ins, ◌▸◌, end, listed, joined}
+use Rattle.task_code.specs.declared.frame.Frame.{Frame}
+use Rattle.stmt_code.specs.FrameOf.{frame_of}
+use Rattle.stmt_code.specs.Section.{section_code}
+use Rattle.emit_code.specs.Delivery.{Entry, entry_of, delivery_code}
+
+-- one frame behind the other
+abbrev pub frames_from : Arch → ℕ → ℕ → List ℕ → List Frame
+frames_from arch base buffer [] = []
+frames_from arch base buffer (h ∷ hs) =
+    let f = frame_of arch h base buffer in
+    f ∷ frames_from arch f.end (buffer + length (handler arch h).emitters) hs
+
+abbrev pub end_of : ℕ → List Frame → ℕ
+end_of a [] = a
+end_of a (f ∷ fs) = end_of f.end fs
+
+-- called with its message in its frame
+abbrev pub handler_code : Arch → List Entry → ℕ → Frame → ℕ → Piece
+handler_code arch entries h f from =
+    let first = section_code arch (handler arch h) f from in
+    first ▸ delivery_code arch entries f (end from first) 0 (handler arch h).emitters ▸ ins Ret
 
 -- n words go from the words at a to those at b
 abbrev pub words_passed : ℕ → ℕ → ℕ → Piece

@@ -10,3 +10,6 @@ pub mod Plan
 pub mod Leads
 pub mod Fits
 pub mod WorkedListing
+pub mod Piece
+pub mod Emission
+pub mod Holds

@@ -2,8 +2,10 @@
 #![tactic(auto)]
 
 mod fitting;
+mod frame;
 pub mod laws;
 mod program;
 
 pub use fitting::fits;
+pub use frame::{Code, Frame, Frames};
 pub use program::{Buffer, Instr, Program, Task};

@@ -17,17 +17,18 @@ use Rattle.task_code.specs.Does.{laid}
 use Rattle.task_code.specs.Leads.{at}
 use Rattle.task_code.proofs.Leads as leads
 use Rattle.task_build.specs.CodeOf.{code_of, task_of}
-use Rattle.lock_reduction.specs.Setting.{Setting}
+use Rattle.task_alone.specs.Setting.{Setting}
 use Rattle.tower_syntax.specs.WellNumbered.{IsWellNumbered, AreNumberedFields, IsNumberedSource, IsNumberedType, IsNumberedHandler, IsNumberedBody}
 use Rattle.tower_syntax.specs.Typed.{IsTyped, HasItsMessage, IsProperType, AreProperFields, IsTypedHandler, AreTypedStmts, no_names}
 use Rattle.tower_syntax.specs.Weights.{scope_of}
 use Rattle.tower_syntax.specs.Graph.{handler}
-use Rattle.lock_reduction.specs.Alone.{Asks, Safe, first_state}
+use Rattle.task_alone.specs.Alone.{Asks, Safe, first_state}
 use Rattle.lock_reduction.specs.Shaped.{Shaped, BeginsWithTake}
-use Rattle.lock_reduction.specs.Reduce.{setting_of, Alone, Sound}
+use Rattle.lock_reduction.specs.Reduce.{Alone, Sound}
+use Rattle.task_alone.specs.SettingOf.{setting_of}
 use Rattle.lock_reduction.proofs.Instance.{reduced}
-use Rattle.lock_reduction.specs.Visits.{SafeAt}
-use Rattle.lock_reduction.proofs.Rules as rules
+use Rattle.task_alone.specs.Visits.{SafeAt}
+use Rattle.task_alone.proofs.Rules as rules
 use Rattle.tower_top.specs.Small.{Small, IsValid, arch_of}
 
 all_none : {X : Type 0} (P : X → Type 0) → All P []

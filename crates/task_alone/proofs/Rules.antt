@@ -15,9 +15,10 @@ use Rattle.task_code.specs.Own.{Filled, Held, Own}
 use Rattle.task_code.specs.Does.{Does, Stuck, Private, Takes, Locks, Unlocks, Writes, does, laid, word_at, slot, with_word, with_count}
 use Rattle.task_code.specs.Leads.{Privately, Leads, at}
 use Rattle.task_code.proofs.Leads as leads
-use Rattle.lock_reduction.specs.Setting.{Setting}
-use Rattle.lock_reduction.specs.Alone.{State, HoldLists, buffers_at, Asks, UnlockAsks, WriteAsks, Safe}
-use Rattle.lock_reduction.specs.Visits.{SafeAt}
+use Rattle.task_alone.specs.Setting.{Setting}
+use Rattle.task_alone.specs.Alone.{State, Asks, UnlockAsks, WriteAsks, Safe}
+use Rattle.task_code.specs.Holds.{HoldLists, buffers_at}
+use Rattle.task_alone.specs.Visits.{SafeAt}
 
 module _ (s : Setting) (x : ℕ) (a : State) (Then Later : State → Type 0) (go : (b : State) → Then b → Later b) where
   unlock_more : (h : Held) (own : Own) (items : List Item) → UnlockAsks s x a h own items Then → UnlockAsks s x a h own items Later

@@ -11,10 +11,10 @@ use Rattle.task_code.specs.Own.{Own}
 use Rattle.task_code.specs.Does.{laid, on}
 use Rattle.task_code.specs.Leads.{Leads}
 use Rattle.task_code.proofs.Leads as leads
-use Rattle.lock_reduction.specs.Setting.{Setting}
-use Rattle.lock_reduction.specs.Alone.{Asks, Safe}
-use Rattle.lock_reduction.specs.Visits.{SafeAt, Visits, with_lock_of, Section}
-use Rattle.lock_reduction.proofs.Rules.{led, locks, unlocks, out}
+use Rattle.task_alone.specs.Setting.{Setting}
+use Rattle.task_alone.specs.Alone.{Asks, Safe}
+use Rattle.task_alone.specs.Visits.{SafeAt, Visits, with_lock_of, Section}
+use Rattle.task_alone.proofs.Rules.{led, locks, unlocks, out}
 
 module _ (s : Setting) (p : Program) (t : Task) (x : ℕ) where
   abbrev visits : (Own → Type 0) → List Item → ℕ → (Own → Type 0) → Type 0

@@ -6,7 +6,7 @@ use Rattle.tower_syntax.specs.declared.body.Root.TheVariants as root
 use Rattle.tower_syntax.specs.Tree.{Expr, lit, Place, place, Steps, no_steps, field, at}
 use Rattle.tower_syntax.specs.Arch.{Arch, Handler, Body}
 use Rattle.tower_syntax.specs.Weights.{Scope, scope_of, shape_at, nth_shape, root_shape, field_shape, element_shape}
-use Rattle.task_build.specs.Frame.{Frame}
+use Rattle.task_code.specs.declared.frame.Frame.{Frame}
 
 pub record Layout : Type 0 where
   pub scope : Scope
@@ -14,6 +14,7 @@ pub record Layout : Type 0 where
   pub param : ℕ
   pub binders : List ℕ
   pub temps : ℕ
+  pub scratch : List ℕ
   pub first_buffer : ℕ
 
 abbrev pub layout_of : Arch → Handler → Frame → ℕ → Body → Layout
@@ -23,11 +24,16 @@ layout_of arch h f i b = record {
   param = f.param;
   binders = slice_index_or f.binders i [];
   temps = f.temps;
+  scratch = f.scratch;
   first_buffer = f.first_buffer;
 }
 
 abbrev pub binder_at : Layout → ℕ → ℕ
 binder_at w b = slice_index_or w.binders b 0
+
+-- the words of a message of emitter k
+abbrev pub scratch_at : Layout → ℕ → ℕ
+scratch_at w k = slice_index_or w.scratch k 0
 
 -- the words of the first k shapes
 abbrev pub words_before : List Shape → ℕ → ℕ

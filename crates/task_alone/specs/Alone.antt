@@ -5,9 +5,10 @@ use Rattle.tower_syntax.specs.declared.arch.Listener.TheVariants as to
 use Rattle.tower_meaning.specs.System.{Item}
 use Rattle.task_code.specs.declared.program.Task.{Task}
 use Rattle.task_code.specs.Program.{Program}
-use Rattle.task_code.specs.Own.{Filled, Held, Own, first_own}
+use Rattle.task_code.specs.Own.{Held, Own, first_own}
+use Rattle.task_code.specs.Holds.{HoldLists, buffers_at}
 use Rattle.task_code.specs.Does.{Does, Stuck, Private, Takes, Locks, Unlocks, Writes, does}
-use Rattle.lock_reduction.specs.Setting.{Setting}
+use Rattle.task_alone.specs.Setting.{Setting}
 
 -- a state of the task, and beside it what is pending
 pub record State : Type 0 where
@@ -21,15 +22,6 @@ abbrev pub FirstIsOf : Setting → ℕ → List Item → Type 0
 FirstIsOf s m [] = ⊥
 FirstIsOf s m ((to.Handler h, v) ∷ rest) = s.system.monitor h ≡ m
 FirstIsOf s m ((to.Output o, v) ∷ rest) = ⊥
-
--- each buffer holds exactly the messages of its list
-abbrev pub HoldLists : List (Option Filled) → List (List Value) → Type 0
-HoldLists [] [] = Unit {0}
-HoldLists (Some f ∷ fs) (vs ∷ lists) = (f.count ≡ length vs) × (take f.count f.slots ≡ map flat vs) × HoldLists fs lists
-HoldLists _ _ = ⊥
-
-abbrev pub buffers_at : Own → List ℕ → List (Option Filled)
-buffers_at own places = map (slice_get own.buffers) places
 
 -- of an UNLOCK: the first item is a handler, the words are its effect's, and its buffers hold the lists
 abbrev pub UnlockAsks : Setting → ℕ → State → Held → Own → List Item → (State → Type 0) → Type 0

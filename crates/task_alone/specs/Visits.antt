@@ -8,8 +8,9 @@ use Rattle.task_code.specs.Program.{Program}
 use Rattle.task_code.specs.Own.{Own}
 use Rattle.task_code.specs.Does.{on}
 use Rattle.task_code.specs.Leads.{Leads}
-use Rattle.lock_reduction.specs.Setting.{Setting}
-use Rattle.lock_reduction.specs.Alone.{HoldLists, buffers_at, Safe}
+use Rattle.task_alone.specs.Setting.{Setting}
+use Rattle.task_alone.specs.Alone.{Safe}
+use Rattle.task_code.specs.Holds.{HoldLists, buffers_at}
 
 -- in a state with these parts the task is safe for n steps
 abbrev pub SafeAt : Setting → Program → Task → ℕ → ℕ → Own → List Item → Value → ℕ → Type 0

@@ -6,9 +6,10 @@ use Rattle.tower_types.specs.Ty.{Shape, one, words}
 use Rattle.tower_syntax.specs.Tree.{Expr, lit, read, un, bin, choose, cast, Place, place, Steps, no_steps, field, at, Stmt, bind, local, set, copy, branch, loop, emit, Stmts, no_stmts, stmt}
 use Rattle.tower_syntax.specs.Weights.{shape_at, root_shape, field_shape, element_shape, place_shape}
 use Rattle.task_code.specs.declared.program.Instr.{Instr}
-use Rattle.task_code.specs.declared.program.Instr.TheVariants.{Push, Ld, St, Ldx, Stx, Ldm, Stm, Un, Bin, Cast, Jmp, Jz, Bput, Badd}
-use Rattle.task_build.specs.Piece.{Piece, nil, ins, ◌▸◌, end}
-use Rattle.task_build.specs.Layout.{Layout, binder_at, Base, private, monitor, plus, given_index, is_moving, moves, place_root, place_steps, place_base, place_span}
+use Rattle.task_code.specs.declared.program.Instr.TheVariants.{Push, Ld, St, Ldx, Stx, Ldm, Stm, Un, Bin, Cast, Jmp, Jz}
+use Rattle.task_code.specs.Piece.{Piece, nil, ins, ◌▸◌, end}
+use Rattle.task_code.specs.Emission.{emission}
+use Rattle.stmt_code.specs.Layout.{Layout, binder_at, scratch_at, Base, private, monitor, plus, given_index, is_moving, moves, place_root, place_steps, place_base, place_span}
 
 -- reads the word at a fixed place
 abbrev pub read_fixed : Base → Piece
@@ -122,10 +123,6 @@ abbrev pub words_copied : Moved → Moved → ℕ → ℕ → Piece
 words_copied to source j zero = nil
 words_copied to source j (suc n) = word_copied to source j ▸ words_copied to source (suc j) n
 
-abbrev pub words_put : ℕ → Moved → ℕ → ℕ → Piece
-words_put buffer p j zero = nil
-words_put buffer p j (suc n) = ins (Push (pos j)) ▸ word_read p j ▸ ins (Bput buffer) ▸ words_put buffer p (suc j) n
-
 abbrev pub set_code : Layout → ℕ → Place → Expr → Piece
 set_code w from p e =
     let first = index_code w from p ▸ before_value (place_moves p) (place_base w p) in
@@ -137,10 +134,32 @@ copy_code w from p q =
     let source = index_code w (end from to) q ▸ kept (place_moves q) (suc w.temps) in
     to ▸ source ▸ words_copied (moved w p w.temps) (moved w q (suc w.temps)) 0 (words (place_shape w.scope p))
 
+-- a message of so many words, with the scratch words of its emitter and the number of its buffer
+pub record SentMessage : Type 0 where
+  pub scratch : ℕ
+  pub buffer : ℕ
+  pub width : ℕ
+
+abbrev pub message_of : Layout → ℕ → SentMessage
+message_of w k = record { scratch = scratch_at w k; buffer = w.first_buffer + k; width = words (shape_at w.scope.emitters k) }
+
+-- the scratch words, as a place that words are moved to
+abbrev pub moved_to : SentMessage → Moved
+moved_to m = record { moving = false; base = private m.scratch; span = m.width; index = 0 }
+
+-- words that begin at a fixed place: private ones are emitted where they stand, a monitor's from the scratch words
+abbrev pub fixed_emitted : SentMessage → Base → Moved → Piece
+fixed_emitted m (private a) p = emission a m.buffer m.width
+fixed_emitted m (monitor h a) p = words_copied (moved_to m) p 0 m.width ▸ emission m.scratch m.buffer m.width
+
+-- words at a place, whose moving index is kept, where it has one
+abbrev pub place_emitted : SentMessage → Bool → Moved → Piece
+place_emitted m false p = fixed_emitted m p.base p
+place_emitted m true p = words_copied (moved_to m) p 0 m.width ▸ emission m.scratch m.buffer m.width
+
 abbrev pub emit_code : Layout → ℕ → ℕ → Expr → Piece
-emit_code w from buffer (read p) =
-    index_code w from p ▸ kept (place_moves p) w.temps ▸ words_put buffer (moved w p w.temps) 0 (words (place_shape w.scope p)) ▸ ins (Badd buffer)
-emit_code w from buffer e = ins (Push (pos 0)) ▸ expr_code w (suc from) e ▸ ins (Bput buffer) ▸ ins (Badd buffer)
+emit_code w from k (read p) = index_code w from p ▸ kept (place_moves p) w.temps ▸ place_emitted (message_of w k) (place_moves p) (moved w p w.temps)
+emit_code w from k e = let m = message_of w k in expr_code w from e ▸ ins (St m.scratch) ▸ emission m.scratch m.buffer m.width
 
 -- a loop counts in the word of its name, which no statement writes
 abbrev mutual
@@ -162,7 +181,7 @@ abbrev mutual
       ins (Push (pos 0)) ▸ ins (St (binder_at w b))
       ▸ ins (Ld (binder_at w b)) ▸ ins (Push (pos n)) ▸ ins (Bin Less U64) ▸ ins (Jz out)
       ▸ inner ▸ ins (Ld (binder_at w b)) ▸ ins (Push (pos 1)) ▸ ins (Bin Add U64) ▸ ins (St (binder_at w b)) ▸ ins (Jmp turn)
-  stmt_code w from (emit k e) = emit_code w from (w.first_buffer + k) e
+  stmt_code w from (emit k e) = emit_code w from k e
 
   pub stmts_code : Layout → ℕ → Stmts → Piece
   stmts_code w from no_stmts = nil

@@ -4,16 +4,7 @@ use Rattle.tower_types.specs.Ty.{words, shape_in, table_of}
 use Rattle.tower_syntax.specs.Arch.{Arch, Handler, Body}
 use Rattle.tower_syntax.specs.Graph.{handler}
 use Rattle.tower_syntax.specs.Weights.{message_words, emitter_words}
-
--- addresses of private words: of the message, of each callback's names, of two words for moving indices and one
--- for the messages that are delivered, and of a message of each emitter; and the number of the first buffer
-pub record Frame : Type 0 where
-  pub param : ℕ
-  pub binders : List (List ℕ)
-  pub temps : ℕ
-  pub scratch : List ℕ
-  pub first_buffer : ℕ
-  pub end : ℕ
+use Rattle.task_code.specs.declared.frame.Frame.{Frame}
 
 -- where each part begins, the first at a
 abbrev pub laid : ℕ → List ℕ → List ℕ
@@ -43,14 +34,3 @@ frame_of arch h base buffer =
       first_buffer = buffer;
       end = temps + 3 + sum sent;
     }
-
--- one frame behind the other
-abbrev pub frames_from : Arch → ℕ → ℕ → List ℕ → List Frame
-frames_from arch base buffer [] = []
-frames_from arch base buffer (h ∷ hs) =
-    let f = frame_of arch h base buffer in
-    f ∷ frames_from arch f.end (buffer + length (handler arch h).emitters) hs
-
-abbrev pub end_of : ℕ → List Frame → ℕ
-end_of a [] = a
-end_of a (f ∷ fs) = end_of f.end fs

@@ -1,4 +1,4 @@
--- The instructions of a handler: its section under the lock, and the delivery of what it emitted.
+-- The instructions that deliver what a handler emitted.
 use Rattle.std.specs.Prelude.{ℕ, zero, suc, ◌+◌, ◌==◌, List, [], ◌∷◌, map, length, slice_index_or, pos, Bool, true, false}
 use Rattle.tower_types.specs.declared.scalar.Scalar.TheVariants.{U64}
 use Rattle.tower_types.specs.declared.scalar.BinOp.TheVariants.{Add, Less}
@@ -9,10 +9,8 @@ use Rattle.tower_syntax.specs.Arch.{Arch, Handler, Body, Emitter}
 use Rattle.tower_syntax.specs.Graph.{handler, subs}
 use Rattle.tower_syntax.specs.Weights.{emitter_words}
 use Rattle.task_code.specs.declared.program.Instr.TheVariants.{Push, Ld, St, Bin, Jmp, Jz, Call, Ret, Lock, Unlock, Out, Bclr, Bget, Bcnt}
-use Rattle.task_build.specs.Piece.{Piece, nil, ins, ◌▸◌, end, joined}
-use Rattle.task_build.specs.Frame.{Frame}
-use Rattle.task_build.specs.Layout.{layout_of}
-use Rattle.task_build.specs.Body.{stmts_code}
+use Rattle.task_code.specs.Piece.{Piece, nil, ins, ◌▸◌, end, joined}
+use Rattle.task_code.specs.declared.frame.Frame.{Frame}
 
 -- a handler of a task: its number, its frame, and the place of its first instruction
 pub record Entry : Type 0 where
@@ -26,22 +24,6 @@ no_entry = record { number = 0; frame = record { param = 0; binders = []; temps 
 abbrev pub entry_of : List Entry → ℕ → Entry
 entry_of [] k = no_entry
 entry_of (e ∷ es) k = elim (e.number == k) [ true ↦ e | false ↦ entry_of es k ]
-
--- n buffers from b on are emptied
-abbrev pub cleared : ℕ → ℕ → Piece
-cleared b zero = nil
-cleared b (suc n) = ins (Bclr b) ▸ cleared (suc b) n
-
-abbrev pub bodies_code : Arch → Handler → Frame → ℕ → ℕ → List Body → Piece
-bodies_code arch h f i from [] = nil
-bodies_code arch h f i from (b ∷ bs) =
-    let first = stmts_code (layout_of arch h f i b) from b.stmts in
-    first ▸ bodies_code arch h f (suc i) (end from first) bs
-
-abbrev pub section_code : Arch → Handler → Frame → ℕ → Piece
-section_code arch h f from =
-    let first = ins (Lock h.monitor) ▸ cleared f.first_buffer (length h.emitters) in
-    first ▸ bodies_code arch h f 0 (end from first) h.callbacks ▸ ins (Unlock h.monitor)
 
 -- n words of the message whose number is in the word i go from a buffer to the words from a on
 abbrev pub words_got : ℕ → ℕ → ℕ → ℕ → ℕ → Piece
@@ -70,9 +52,3 @@ delivery_code arch entries f from k (e ∷ es) =
     let first =
     emitter_code entries from (f.temps + 2) (f.first_buffer + k) (slice_index_or f.scratch k 0) (emitter_words arch e) (subs arch (on.Channel e.channel)) in
     first ▸ delivery_code arch entries f (end from first) (suc k) es
-
--- called with its message in its frame
-abbrev pub handler_code : Arch → List Entry → ℕ → Frame → ℕ → Piece
-handler_code arch entries h f from =
-    let first = section_code arch (handler arch h) f from in
-    first ▸ delivery_code arch entries f (end from first) 0 (handler arch h).emitters ▸ ins Ret

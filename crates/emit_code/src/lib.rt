@@ -1,0 +1,2 @@
+//! The code that puts messages into buffers and delivers them.
+#![tactic(auto)]

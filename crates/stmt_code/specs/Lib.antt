@@ -1,0 +1,4 @@
+pub mod FrameOf
+pub mod Layout
+pub mod Body
+pub mod Section

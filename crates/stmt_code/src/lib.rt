@@ -1,0 +1,2 @@
+//! The code of handlers: from its LOCK to its UNLOCK each does its effect.
+#![tactic(auto)]

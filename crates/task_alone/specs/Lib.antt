@@ -1,0 +1,4 @@
+pub mod Setting
+pub mod SettingOf
+pub mod Alone
+pub mod Visits
