@@ -1,0 +1,9 @@
+pub mod Going
+pub mod Listed
+pub mod Copied
+pub mod Served
+pub mod Looped
+pub mod Emitted
+pub mod Delivered
+pub mod EmitterEmits
+pub mod Lengths

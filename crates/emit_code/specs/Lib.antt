@@ -1,1 +1,3 @@
 pub mod Delivery
+pub mod Entries
+pub mod Delivering

@@ -2,3 +2,4 @@ pub mod FrameOf
 pub mod Layout
 pub mod Body
 pub mod Section
+pub mod Effects

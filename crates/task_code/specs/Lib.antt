@@ -13,3 +13,5 @@ pub mod WorkedListing
 pub mod Piece
 pub mod Emission
 pub mod Holds
+pub mod Formed
+pub mod Emitting

@@ -1,0 +1,9 @@
+//! What the code of a handler does. Each body is empty: the contract is the law.
+
+ghost use Rattle.stmt_code.specs.Effects.{SectionsDoEffects, SectionsAreShort};
+
+/// From its LOCK to its UNLOCK the code of a handler does its effect, within its weight, and changes only what is its own.
+pub fn sections_do_effects()
+    ensures effects { SectionsDoEffects }
+    ensures short { SectionsAreShort }
+{}
