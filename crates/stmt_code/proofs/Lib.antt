@@ -20,6 +20,7 @@ pub mod EmitsRun
 pub mod AllRun
 pub mod Heights
 pub mod Apportioned
+pub mod FramesLaid
 pub mod Roots
 pub mod Plans
 pub mod CallbacksRun

@@ -3,3 +3,4 @@ pub mod Layout
 pub mod Body
 pub mod Section
 pub mod Effects
+pub mod FrameParts

@@ -1,22 +1,21 @@
--- An accepted system's program is sound, if the code of its callbacks is right.
+-- The program of an accepted system is sound.
 use Rattle.std.proofs.Common.{ℕ, zero, suc, ◌≤◌, List, [], ◌∷◌, All, arith, slice_index_or}
 use Rattle.std.proofs.lemmas.List.Elements.{All-head, All-tail, All-nil}
 use Rattle.tower_syntax.specs.Arch.{Arch, Handler}
 use Rattle.tower_syntax.specs.Graph.{handler, no_handler}
 use Rattle.tower_syntax.specs.Words.{IsBound}
 use Rattle.task_build.specs.CodeOf.{code_of}
-use Rattle.lock_reduction.specs.Reduce.{Sound}
+use Rattle.lock_reduction.specs.Reduce.{Alone, Sound}
 use Rattle.lock_reduction.proofs.Instance.{reduced}
 use Rattle.task_alone.proofs.Lists.{all_at}
-use Rattle.arch_checks.specs.declared.fault.What.TheVariants as what
 use Rattle.arch_checks.specs.Laws.{IsSafe}
 use Rattle.arch_checks.specs.Offences.{IsAccepted}
 use Rattle.arch_checks.proofs.Accepted.{safe}
-use Rattle.task_build.proofs.Planned.{HasSmallBounds, AllBodiesRun}
-use Rattle.task_build.proofs.Coded.{accepted_alone}
+use Rattle.task_build.proofs.Planned.{HasSmallBounds}
+use Rattle.task_build.proofs.Coded.{code_alone}
 use Rattle.task_build.proofs.Kept.{KeepsNumbers}
 use Rattle.task_build.proofs.Ranged.{keeps_numbers}
-use Rattle.task_build.proofs.Typing.{shaped}
+use Rattle.task_build.proofs.Weighed.{shaped}
 
 -- what all handlers have, and no handler has too
 pub each_handler : (P : Handler → Type 0) (hs : List Handler) → P no_handler → All P hs → (h : ℕ) → P (slice_index_or hs h no_handler)
@@ -31,8 +30,12 @@ small_bounds arch keeps h k e has =
     let small : e.bound ≤ 65536 = bound.1 in
     omega (arith, small)
 
-pub sound : (bs : List ℕ) (arch : Arch) → IsAccepted bs arch → AllBodiesRun arch → Sound arch (code_of arch)
-sound bs arch accepted bodies =
+-- the program of an accepted system is right alone
+pub alone : (bs : List ℕ) (arch : Arch) → IsAccepted bs arch → Alone arch (code_of arch)
+alone bs arch accepted = code_alone arch (safe bs arch accepted) (small_bounds arch (keeps_numbers bs arch accepted))
+
+-- and sound
+pub sound : (bs : List ℕ) (arch : Arch) → IsAccepted bs arch → Sound arch (code_of arch)
+sound bs arch accepted =
     let s : IsSafe arch = safe bs arch accepted in
-    reduced arch (code_of arch) s.numbered s.typed (shaped arch s.typed)
-    (accepted_alone arch s.numbered s.typed s.acyclic (λ n c. s.within what.Chain n c) (small_bounds arch (keeps_numbers bs arch accepted)) bodies)
+    reduced arch (code_of arch) s.numbered s.typed (shaped arch) (alone bs arch accepted)

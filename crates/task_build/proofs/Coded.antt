@@ -11,7 +11,7 @@ use Rattle.tower_syntax.specs.WellNumbered.{AreListeners, IsWellNumbered}
 use Rattle.tower_syntax.specs.Typed.{IsTyped}
 use Rattle.tower_meaning.proofs.KeepsTypes.{keeps_types}
 use Rattle.std.proofs.lemmas.Bool.{cases_lt}
-use Rattle.tower_syntax.specs.Weights.{message_words, channel_message}
+use Rattle.tower_syntax.specs.Weights.{message_words, channel_message, handler_memory, memory}
 use Rattle.tower_meaning.specs.Fits.{KeepsTypes}
 use Rattle.task_code.specs.declared.program.Buffer.{Buffer}
 use Rattle.task_code.specs.declared.program.Task.{Task}
@@ -26,14 +26,18 @@ use Rattle.channel_graph.specs.Chain.{IsWalk, IsChain}
 use Rattle.channel_graph.proofs.Walked.{walk_is_short}
 use Rattle.channel_graph.proofs.Members.{In, filter_has, contains_from_In, In-from_contains}
 use Rattle.channel_graph.proofs.Closed.{listed_is_reached, reached_is_listed}
-use Rattle.task_build.proofs.Planned.{HasSmallBounds, BodiesRun, AllBodiesRun, Planned, Headed, IsDelivered, known_of, taken_of, entries_of}
+use Rattle.arch_checks.specs.declared.fault.What.TheVariants as what
+use Rattle.arch_checks.specs.Laws.{IsSafe}
+use Rattle.task_build.proofs.Handled.{sections_run}
+use Rattle.task_build.proofs.Roots.{handler_in_memory}
+use Rattle.task_build.proofs.Planned.{HasSmallBounds, Planned, Headed, IsDelivered, known_of, taken_of, entries_of}
 use Rattle.emit_code.specs.Entries.{frame_in}
-use Rattle.task_build.proofs.Frames.{Inner, inner}
+use Rattle.task_build.proofs.Frames.{inner}
+use Rattle.emit_code.specs.Entries.{HasParts}
 use Rattle.task_build.proofs.Headed.{same_on_source}
 use Rattle.task_build.proofs.Placed.{Alike, all_stands, placed_alike, head_end, entry_stands}
 use Rattle.task_build.proofs.Laid.{table_long, Lies, lies, Apart, apart, table_at}
 use Rattle.task_alone.proofs.Lists.{get_unmap}
-use Rattle.task_build.proofs.Sections.{section_runs}
 use Rattle.task_build.proofs.Lone.{alone}
 
 index_mapped : {X : Type 0} (f : X → ℕ) (xs : List X) (i : ℕ) (d : X) → i < length xs → slice_index (map f xs) i ≡ f (slice_index_or xs i d)
@@ -131,14 +135,17 @@ module _ (arch : Arch) (listed_once : AreListeners arch) (x : ℕ) (source : Sou
   planned small = record {
     stands = λ h r. entry_stands arch t.code (known_of arch x) (entries_of arch x) alike hs 0 0 from handlers_stand h (in_hs h r);
     frame = λ h r. (lie h r).is;
-    room = room_is;
-    apart = λ h k rh rk ne. frames_apart h k (apart arch (known_of arch x) hs 0 0 from h k (in_hs h rh) (in_hs k rk) ne);
-    buffers_apart = λ h k rh rk ne. buffers_apart h k (apart arch (known_of arch x) hs 0 0 from h k (in_hs h rh) (in_hs k rk) ne);
     first = place_is;
     has_buffers = λ h r. subst (λ a. a + length (handler arch h).emitters ≤ length t.buffers) (sym (place_is h r)) (table_long arch hs h (in_hs h r));
-    tables = λ h k e r has. subst (λ a. slice_get t.buffers (a + k) ≡ Some (record { width = message_words arch (on.Channel e.channel); bound = e.bound })) (sym (place_is h r)) (table_at arch hs h k e (in_hs h r) has);
-    outputs = λ o lt. index_mapped (λ q. words (shape_in (table_of arch.records) (channel_message arch q.channel))) arch.outputs o no_output lt;
-    few = small_table arch small hs;
+    framed = record {
+      parts = λ h r. inner arch h (frame_in (entries_of arch x) h) (lie h r).is;
+      room = room_is;
+      apart = λ h k rh rk ne. frames_apart h k (apart arch (known_of arch x) hs 0 0 from h k (in_hs h rh) (in_hs k rk) ne);
+      buffers_apart = λ h k rh rk ne. buffers_apart h k (apart arch (known_of arch x) hs 0 0 from h k (in_hs h rh) (in_hs k rk) ne);
+      tables = λ h k e r has. subst (λ a. slice_get t.buffers (a + k) ≡ Some (record { width = message_words arch (on.Channel e.channel); bound = e.bound })) (sym (place_is h r)) (table_at arch hs h k e (in_hs h r) has);
+      outputs = λ o lt. index_mapped (λ q. words (shape_in (table_of arch.records) (channel_message arch q.channel))) arch.outputs o no_output lt;
+      few = small_table arch small hs;
+    };
   }
     where
       frames_apart : (h k : ℕ) → Apart arch (known_of arch x) h k (frame_in (entries_of arch x) h) (frame_in (entries_of arch x) k) → ((frame_in (entries_of arch x) h).end ≤ (frame_in (entries_of arch x) k).param) ⊎ ((frame_in (entries_of arch x) k).end ≤ (frame_in (entries_of arch x) h).param)
@@ -161,7 +168,7 @@ module _ (arch : Arch) (listed_once : AreListeners arch) (x : ℕ) (source : Sou
         let g = taken_there s.0 (contains_from_In (subs arch (on.Source x)) (to.Handler s.0) s.1) in
         let r : Reaches arch x g.0 = begins g.0 g.1 in
         let f : Frame = frame_in (entries_of arch x) g.0 in
-        let parts : Inner arch g.0 f = inner arch g.0 f (lie g.0 r).is in
+        let parts : HasParts arch g.0 f = inner arch g.0 f (lie g.0 r).is in
         let source_on = same_on_source (handler arch g.0).on x (filter_has (hears arch (on.Source x)) arch.listeners (to.Handler g.0) (In-from_contains (subs arch (on.Source x)) (to.Handler g.0) g.1)).1 in
         let size : message_words arch (handler arch g.0).on ≡ width = ap (message_words arch) source_on in
         fits (taken_of arch x) f.param f.temps f.end t.room (message_words arch (handler arch g.0).on) width g.2 parts.message parts.counter (room_is g.0 r) size
@@ -180,14 +187,20 @@ module _ (arch : Arch) (listed_once : AreListeners arch) (x : ℕ) (source : Sou
   pub headed : Headed arch t x (entries_of arch x)
   headed = record { taken = taken_of arch x; stands = code_stands.0; room = head_room; first = taken_there }
 
-  pub delivered : x < length arch.sources → HasSmallBounds arch → ((h : ℕ) → Reaches arch x h → BodiesRun arch (code_of arch) t x (entries_of arch x) h) → IsDelivered arch (code_of arch) t x
-  delivered lt small bodies = record {
+  pub delivered : x < length arch.sources → HasSmallBounds arch → IsSafe arch → IsDelivered arch (code_of arch) t x
+  delivered lt small safe = record {
     there = lt;
     entries = entries_of arch x;
     planned = planned small;
     headed = headed;
-    sections = λ h r. section_runs arch (code_of arch) t x (entries_of arch x) (planned small) h r (bodies h r);
+    sections = λ h r. sections_run arch (code_of arch) t x (entries_of arch x) (planned small) safe h r (within h r);
   }
+    where
+      within : (h : ℕ) → Reaches arch x h → handler_memory arch (handler arch h) ≤ 1048576
+      within h r =
+          let whole : memory arch ≤ 1048576 = safe.within what.Memory (memory arch) refl in
+          let part = handler_in_memory arch safe.numbered x h r in
+          omega (arith, whole, part)
 
 -- the tasks are those of the sources
 task_from : (arch : Arch) (sources : List Source) (s x : ℕ) (t : Task) → slice_get (tasks_from arch s sources) x ≡ Some t → (source : Source) × (x < length sources) × (slice_get sources x ≡ Some source) × (task_of arch (s + x) source ≡ t)
@@ -198,14 +211,6 @@ task_from arch (q ∷ sources) s (suc x) t e =
     let z : s + suc x ≡ suc s + x = omega arith in
     let lt : x < length sources = r.1 in
     (r.0, omega (arith, lt), r.2, ap (λ a. task_of arch a r.0) z ∙ r.3)
-
--- the program of a system is right alone, if the code of its callbacks is right
-pub code_alone : (arch : Arch) → AreListeners arch → IsAcyclic arch → KeepsTypes arch → ((walk : List ℕ) → IsWalk arch walk → length walk ≤ 100) → HasSmallBounds arch → AllBodiesRun arch → Alone arch (code_of arch)
-code_alone arch listed_once acyclic keeps chain small bodies =
-    alone arch (code_of arch) listed_once acyclic keeps chain (λ x t e.
-    let r = task_from arch arch.sources 0 x t e in
-    let z : 0 + x ≡ x = omega arith in
-    subst (λ q. IsDelivered arch (code_of arch) q x) (ap (λ a. task_of arch a r.0) (sym z) ∙ r.3) (delivered arch listed_once x r.0 r.1 small (bodies x r.0 r.2)))
 
 -- a walk that is longer than each longest one has no end
 none_over : (arch : Arch) (limit : ℕ) → AreListeners arch → IsAcyclic arch → ((n : ℕ) → IsChain arch n → n ≤ limit) → (d : ℕ) (walk : List ℕ) → IsWalk arch walk → limit < length walk → length arch.handlers < length walk + d → ⊥
@@ -224,13 +229,17 @@ none_over arch limit listed_once acyclic chain (suc d) walk is over long =
     }) in
     omega (arith, few, over)
 
-short_walks : (arch : Arch) (limit : ℕ) → AreListeners arch → IsAcyclic arch → ((n : ℕ) → IsChain arch n → n ≤ limit) → (walk : List ℕ) → IsWalk arch walk → length walk ≤ limit
+pub short_walks : (arch : Arch) (limit : ℕ) → AreListeners arch → IsAcyclic arch → ((n : ℕ) → IsChain arch n → n ≤ limit) → (walk : List ℕ) → IsWalk arch walk → length walk ≤ limit
 short_walks arch limit listed_once acyclic chain walk is = elim (cases_lt limit (length walk)) [
   | inl over ↦ absurd (none_over arch limit listed_once acyclic chain (suc (length arch.handlers)) walk is over (omega arith))
   | inr le ↦ le
 ]
 
--- the same, by what an accepted system keeps
-pub accepted_alone : (arch : Arch) → IsWellNumbered arch → IsTyped arch → IsAcyclic arch → ((n : ℕ) → IsChain arch n → n ≤ 100) → HasSmallBounds arch → AllBodiesRun arch → Alone arch (code_of arch)
-accepted_alone arch numbered typed acyclic chain small bodies =
-    code_alone arch numbered.listeners acyclic (keeps_types arch numbered typed) (short_walks arch 100 numbered.listeners acyclic chain) small bodies
+-- the program of a system is right alone
+pub code_alone : (arch : Arch) → IsSafe arch → HasSmallBounds arch → Alone arch (code_of arch)
+code_alone arch safe small =
+    let listed_once : AreListeners arch = safe.numbered.listeners in
+    alone arch (code_of arch) listed_once safe.acyclic (keeps_types arch safe.numbered safe.typed) (short_walks arch 100 listed_once safe.acyclic (λ n c. safe.within what.Chain n c)) (λ x t e.
+    let r = task_from arch arch.sources 0 x t e in
+    let z : 0 + x ≡ x = omega arith in
+    subst (λ q. IsDelivered arch (code_of arch) q x) (ap (λ a. task_of arch a r.0) (sym z) ∙ r.3) (delivered arch listed_once x r.0 r.1 small safe))

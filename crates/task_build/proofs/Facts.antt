@@ -1,4 +1,4 @@
--- What an accepted system gives the proof of its bodies, and what that proof gives it.
+-- What follows for each accepted system.
 use Rattle.std.proofs.Common.{◌≡◌, ℕ, zero, suc, ◌+◌, ◌<◌, ◌≤◌, inl, inr, List, length, Some, refl, arith, slice_get}
 use Rattle.std.proofs.lemmas.Bool.{cases_lt}
 use Rattle.tower_syntax.specs.Arch.{Arch, Source, Body}
@@ -10,20 +10,18 @@ use Rattle.task_code.specs.Program.{Program}
 use Rattle.stmt_code.specs.Layout.{layout_of}
 use Rattle.emit_code.specs.Delivery.{Entry}
 use Rattle.task_build.specs.CodeOf.{task_of, code_of}
-use Rattle.lock_reduction.specs.Reduce.{Sound}
 use Rattle.task_alone.proofs.Lists.{all_at}
 use Rattle.channel_graph.specs.Circuit.{IsAcyclic}
 use Rattle.channel_graph.specs.Chain.{IsWalk, IsChain}
 use Rattle.channel_graph.specs.Over.{NoneOver}
-use Rattle.channel_graph.proofs.Walked.{walk_is_short}
 use Rattle.arch_order.proofs.Lists.{each_element}
 use Rattle.arch_checks.specs.declared.fault.What.TheVariants as what
 use Rattle.arch_checks.specs.Laws.{IsSafe}
 use Rattle.arch_checks.specs.Offences.{IsAccepted}
 use Rattle.arch_checks.proofs.Accepted.{safe}
 use Rattle.emit_code.specs.Entries.{frame_in}
-use Rattle.task_build.proofs.Planned.{Planned, entries_of, BodiesRun}
-use Rattle.task_build.proofs.Coded.{planned}
+use Rattle.task_build.proofs.Planned.{Planned, entries_of}
+use Rattle.task_build.proofs.Coded.{planned, short_walks}
 use Rattle.task_build.proofs.Kept.{KeepsNumbers}
 use Rattle.task_build.proofs.Layouts.{IsLaid, HasWideTypes}
 use Rattle.task_build.proofs.Ranged.{keeps_numbers}
@@ -32,30 +30,7 @@ use Rattle.task_build.proofs.Rooms.{body_room}
 use Rattle.emit_code.proofs.Listed.{get_in}
 use Rattle.task_code.specs.Rules.{all_instructions}
 use Rattle.task_build.proofs.Ruled.{reached_below, good_names, numbered_here, in_sum, rules_kept}
-use Rattle.task_build.proofs.Closing.{small_bounds, sound}
-
--- a walk that is longer than each longest one has no end
-none_over : (arch : Arch) (limit : ℕ) → AreListeners arch → IsAcyclic arch → ((n : ℕ) → IsChain arch n → n ≤ limit) → (d : ℕ) (walk : List ℕ) → IsWalk arch walk → limit < length walk → length arch.handlers < length walk + d → ⊥
-none_over arch limit listed_once acyclic chain zero walk is over long =
-    let few : length walk ≤ length arch.handlers = walk_is_short arch walk listed_once acyclic is in
-    omega (arith, few, long)
-none_over arch limit listed_once acyclic chain (suc d) walk is over long =
-    let few : length walk ≤ limit = chain (length walk) (record {
-      walk = walk;
-      is = is;
-      long = refl;
-      longest = λ other is_other. elim (cases_lt (length walk) (length other)) [
-        | inl longer ↦ absurd (none_over arch limit listed_once acyclic chain d other is_other (omega (arith, over, longer)) (omega (arith, long, longer)))
-        | inr le ↦ le
-      ];
-    }) in
-    omega (arith, few, over)
-
-short_walks : (arch : Arch) (limit : ℕ) → AreListeners arch → IsAcyclic arch → ((n : ℕ) → IsChain arch n → n ≤ limit) → (walk : List ℕ) → IsWalk arch walk → length walk ≤ limit
-short_walks arch limit listed_once acyclic chain walk is = elim (cases_lt limit (length walk)) [
-  | inl over ↦ absurd (none_over arch limit listed_once acyclic chain (suc (length arch.handlers)) walk is over (omega arith))
-  | inr le ↦ le
-]
+use Rattle.task_build.proofs.Closing.{small_bounds}
 
 pub walks_short : (bs : List ℕ) (arch : Arch) → IsAccepted bs arch → (walk : List ℕ) → IsWalk arch walk → length walk ≤ 100
 walks_short bs arch accepted = let s : IsSafe arch = safe bs arch accepted in short_walks arch 100 s.numbered.listeners s.acyclic (λ n c. s.within what.Chain n c)
@@ -70,17 +45,8 @@ bodies_laid bs arch accepted x source h reached i b at =
     let s : IsSafe arch = safe bs arch accepted in
     let keeps : KeepsNumbers arch = keeps_numbers bs arch accepted in
     let plan : Planned arch (code_of arch) (task_of arch x source) x (entries_of arch x) = planned arch s.numbered.listeners x source (small_bounds arch keeps) in
-    body_room arch s keeps (code_of arch) (task_of arch x source) h (frame_in (entries_of arch x) h) i b (plan.frame h reached) (plan.room h reached) (plan.has_buffers h reached) refl (numbered_here arch s h (reached_below arch x h s.numbered.listeners reached)).monitor at
+    body_room arch s keeps (code_of arch) (task_of arch x source) h (frame_in (entries_of arch x) h) i b (plan.frame h reached) (plan.framed.room h reached) (plan.has_buffers h reached) refl (numbered_here arch s h (reached_below arch x h s.numbered.listeners reached)).monitor at
     (all_at (λ c. AreGood arch s keeps c.binders) (handler arch h).callbacks i b (each_element (λ c. AreGood arch s keeps c.binders) (handler arch h).callbacks (good_names arch s keeps h)) at)
-
--- the code of one body is enough, in the words of the study of bodies
-pub sound_by_bodies : (bs : List ℕ) (arch : Arch) → IsAccepted bs arch
-    → ((p : Program) (t : Task) (x : ℕ) (entries : List Entry) → IsWellNumbered arch → IsTyped arch → NoneOver arch → Planned arch p t x entries → (h : ℕ) → Reaches arch x h → BodiesRun arch p t x entries h)
-    → Sound arch (code_of arch)
-sound_by_bodies bs arch accepted bodies =
-    let s : IsSafe arch = safe bs arch accepted in
-    sound bs arch accepted (λ x source there h reached.
-    bodies (code_of arch) (task_of arch x source) x (entries_of arch x) s.numbered s.typed s.bounded (planned arch s.numbered.listeners x source (small_bounds arch (keeps_numbers bs arch accepted))) h reached)
 
 -- no place in the code of a task is above the limit
 pub places_small : (bs : List ℕ) (arch : Arch) → IsAccepted bs arch → (x : ℕ) (t : Task) → slice_get (code_of arch).tasks x ≡ Some t → length t.code ≤ 1000000

@@ -35,14 +35,12 @@ use Rattle.channel_graph.specs.Laws.{IsDelivery}
 use Rattle.channel_graph.proofs.Linked.{link_of}
 use Rattle.channel_graph.proofs.Members.{In, filter_has, contains_from_In, In-from_contains}
 use Rattle.task_code.specs.Formed.{HoldWords, IsFormedBuffer, IsFormed}
-use Rattle.emit_code.specs.Entries.{Behind, next, later, frame_in, place_in, Touched, Entered}
+use Rattle.emit_code.specs.Entries.{Behind, next, later, frame_in, place_in, Touched, Entered, HasParts}
 use Rattle.task_build.proofs.Planned.{Planned, SectionRuns, Headed, AtHead, AtTake}
 use Rattle.task_code.proofs.Lists.{set_same, set_other}
 use Rattle.task_code.proofs.Formed.{at_is, formed_like}
 use Rattle.emit_code.proofs.Listed.{in_map, all_in, same_on_channel}
-use Rattle.task_build.proofs.Frames.{Inner}
 use Rattle.task_build.proofs.Handled.{entry_visits}
-use Rattle.emit_code.proofs.Delivered.{inner_in}
 
 -- ---- from frame to frame
 
@@ -216,7 +214,7 @@ module _ (arch : Arch) (p : Program) (t : Task) (x : ℕ) (entries : List Entry)
 
   message_in : (k : ℕ) → OnSource k → (frame_in entries k).param + width < (frame_in entries k).end
   message_in k h =
-      let parts : Inner arch k (frame_in entries k) = inner_in arch p t x entries planned listed acyclic keeps (deliver arch) delivery sections k (reaches k h) in
+      let parts : HasParts arch k (frame_in entries k) = planned.framed.parts k (reaches k h) in
       let message : (frame_in entries k).param + message_words arch (handler arch k).on ≤ (frame_in entries k).temps = parts.message in
       let counter : (frame_in entries k).temps + 2 < (frame_in entries k).end = parts.counter in
       let same : message_words arch (handler arch k).on ≡ width = ap (message_words arch) (on_source k h) in
@@ -229,7 +227,7 @@ module _ (arch : Arch) (p : Program) (t : Task) (x : ℕ) (entries : List Entry)
       let low : (frame_in entries f.number).param ≤ c = f.from in
       let high : c < (frame_in entries f.number).end = f.before in
       let differ : g ≢ f.number = λ e. let c = channel_of arch k f.number listed f.follows in not_source arch f.number c.0 x (subst (λ h. same_on (handler arch h).on (on.Source x) ≡ true) e (filter_has (hears arch (on.Source x)) arch.listeners (to.Handler g) on_g).1) c.1 in
-      apart (planned.apart g f.number (reaches g on_g) f.reached differ) ends low high
+      apart (planned.framed.apart g f.number (reaches g on_g) f.reached differ) ends low high
     where
       apart : ((frame_in entries g).end ≤ (frame_in entries f.number).param) ⊎ ((frame_in entries f.number).end ≤ (frame_in entries g).param) → (frame_in entries g).param + width < (frame_in entries g).end → (frame_in entries f.number).param ≤ c → c < (frame_in entries f.number).end → ⊥
       apart (inl l) ends low high = omega (arith, l, ends, low, before, is)
@@ -240,7 +238,7 @@ module _ (arch : Arch) (p : Program) (t : Task) (x : ℕ) (entries : List Entry)
         let size : message_words arch (handler arch k).on ≡ width = ap (message_words arch) (on_source k on_k) in
         let low : (frame_in entries k).param + message_words arch (handler arch k).on ≤ c = own.0 in
         omega (arith, low, size, param, is, before)
-    | inr differ ↦ apart (planned.apart g k (reaches g on_g) (reaches k on_k) differ) (message_in g on_g) own.0 own.1
+    | inr differ ↦ apart (planned.framed.apart g k (reaches g on_g) (reaches k on_k) differ) (message_in g on_g) own.0 own.1
   ]
     where
       apart : ((frame_in entries g).end ≤ (frame_in entries k).param) ⊎ ((frame_in entries k).end ≤ (frame_in entries g).param) → (frame_in entries g).param + width < (frame_in entries g).end → (frame_in entries k).param + message_words arch (handler arch k).on ≤ c → c < (frame_in entries k).end → ⊥
@@ -268,9 +266,9 @@ module _ (arch : Arch) (p : Program) (t : Task) (x : ℕ) (entries : List Entry)
         let b : ℕ = (frame_in entries k).param in
         let size : length o.words ≡ t.room = c.formed.room in
         let ends : b + width < (frame_in entries k).end = message_in k on_k in
-        let room : (frame_in entries k).end ≤ t.room = planned.room k (reaches k on_k) in
+        let room : (frame_in entries k).end ≤ t.room = planned.framed.room k (reaches k on_k) in
         let not_g : g ≢ k = λ e. differ (is ∙ ap (λ h. (frame_in entries h).param) e) in
-        let beside : (taken + width ≤ b) ⊎ (b + width ≤ taken) = apart (planned.apart g k (reaches g on_g) (reaches k on_k) not_g) (message_in g on_g) ends in
+        let beside : (taken + width ≤ b) ⊎ (b + width ≤ taken) = apart (planned.framed.apart g k (reaches g on_g) (reaches k on_k) not_g) (message_in g on_g) ends in
         let r : Passed p t taken b width place o = passes p t width taken b place o beside (omega (arith, size, ends, room)) h in
         let o' : Own = at (record o { words = r.words }) (end place (words_passed taken b width)) [] in
         record {
@@ -319,7 +317,7 @@ module _ (arch : Arch) (p : Program) (t : Task) (x : ℕ) (entries : List Entry)
       )))
       (λ n o rest handed since c room go.
       let one : length o.calls ≡ 1 = ap length c.1 in
-      entry_visits arch p t x entries planned listed acyclic keeps (deliver arch) delivery sections 255 k (reaches k on_k) (few k (reaches k on_k)) v fits o c.0 (omega (arith, one)) n o rest handed since refl room
+      entry_visits arch p t x entries planned listed acyclic keeps (deliver arch) delivery sections 255 k (reaches k on_k) (few k (reaches k on_k)) 1 (omega arith) v fits o c.0 (omega (arith, one)) n o rest handed since refl room
       (λ o' handed' since' r le.
       let back = r.back (suc after) [] c.1 in
       go o' handed' since' (record {

@@ -14,7 +14,8 @@ use Rattle.stmt_code.specs.FrameOf.{frame_of, laid, binder_words, binders_laid}
 use Rattle.stmt_code.specs.Layout.{layout_of, words_before}
 use Rattle.task_alone.proofs.Lists.{get_within}
 use Rattle.arch_checks.specs.Laws.{IsSafe}
-use Rattle.task_build.proofs.Frames.{laid_within, Inner, inner}
+use Rattle.task_build.proofs.Frames.{laid_within, inner}
+use Rattle.emit_code.specs.Entries.{HasParts}
 use Rattle.task_build.proofs.Kept.{KeepsNumbers}
 use Rattle.task_code.proofs.Lists.{cons_sum as sum_cons}
 use Rattle.task_build.proofs.Goods.{AreGood, good_message, good_states}
@@ -78,7 +79,7 @@ module _ (arch : Arch) (safe : IsSafe arch) (keeps : KeepsNumbers arch) where
       → slice_get (handler arch h).callbacks i ≡ Some b → AreGood arch safe keeps b.binders
       → IsLaid p t (layout_of arch (handler arch h) f i b)
   body_room p t h f i b is room buffers monitors there at good =
-      let parts : Inner arch h f = inner arch h f is in
+      let parts : HasParts arch h f = inner arch h f is in
       let m : ℕ = (handler arch h).monitor in
       let counter : f.temps + 2 < f.end = parts.counter in
       let message = parts.message in

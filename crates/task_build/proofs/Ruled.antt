@@ -39,7 +39,8 @@ use Rattle.arch_checks.proofs.Accepted.{safe}
 use Rattle.emit_code.specs.Entries.{frame_in, place_in}
 use Rattle.task_build.proofs.Planned.{Planned, Headed, known_of, taken_of, entries_of}
 use Rattle.emit_code.proofs.Listed.{exists, same_on_channel, get_in}
-use Rattle.task_build.proofs.Frames.{Inner, inner}
+use Rattle.task_build.proofs.Frames.{inner}
+use Rattle.emit_code.specs.Entries.{HasParts}
 use Rattle.task_build.proofs.Headed.{same_on_source}
 use Rattle.task_build.proofs.Laid.{grows as frames_grow}
 use Rattle.task_build.proofs.Placed.{Alike, placed_alike, handler_end, head_end}
@@ -47,8 +48,8 @@ use Rattle.task_build.proofs.Coded.{planned, headed}
 use Rattle.task_build.proofs.Kept.{KeepsNumbers}
 use Rattle.task_code.proofs.Pieces.{end_is}
 use Rattle.task_code.proofs.Lists.{cons_sum as sum_cons}
-use Rattle.task_build.proofs.Typing.{typed_handler, code_small}
-use Rattle.task_build.proofs.Weighed.{words_small, memory_small}
+use Rattle.task_build.proofs.Typing.{typed_handler}
+use Rattle.task_build.proofs.Weighed.{task_within, words_within, instructions_within}
 use Rattle.task_build.proofs.Ranged.{keeps_numbers}
 use Rattle.task_build.proofs.Goods.{each_of, times, full_words, good_message, AreGood, HasGoodNames, good_handlers}
 use Rattle.task_build.proofs.Closing.{each_handler, small_bounds}
@@ -157,10 +158,10 @@ module _ (arch : Arch) (safe_arch : IsSafe arch) (keeps : KeepsNumbers arch) (x 
   -- a message of n words fits into the frame of a handler that hears it
   message_room : (k n : ℕ) → Reaches arch x k → message_words arch (handler arch k).on ≡ n → (frame_in es k).param + n ≤ t.room
   message_room k n r e =
-      let parts : Inner arch k (frame_in es k) = inner arch k (frame_in es k) (plan.frame k r) in
+      let parts : HasParts arch k (frame_in es k) = inner arch k (frame_in es k) (plan.frame k r) in
       let message : (frame_in es k).param + message_words arch (handler arch k).on ≤ (frame_in es k).temps = parts.message in
       let last : (frame_in es k).temps + 2 < (frame_in es k).end = parts.counter in
-      let room : (frame_in es k).end ≤ t.room = plan.room k r in
+      let room : (frame_in es k).end ≤ t.room = plan.framed.room k r in
       omega (arith, message, last, room, e)
 
   -- ---- a handler, in a frame
@@ -174,7 +175,7 @@ module _ (arch : Arch) (safe_arch : IsSafe arch) (keeps : KeepsNumbers arch) (x 
         let m = filter_has (hears arch (on.Channel e.channel)) arch.listeners (to.Output o) l in
         let same : on.Channel (output arch o).channel ≡ on.Channel e.channel = same_on_channel (on.Channel (output arch o).channel) e.channel m.1 in
         let there : o < length arch.outputs = exists arch (to.Output o) once m.0 in
-        let width : slice_index p.outputs o ≡ emitter_words arch e = plan.outputs o there ∙ ap (message_words arch) same in
+        let width : slice_index p.outputs o ≡ emitter_words arch e = plan.framed.outputs o there ∙ ap (message_words arch) same in
         let places = (inner arch h f is).scratch k e has in
         let high : slice_index_or f.scratch k 0 + emitter_words arch e ≤ f.end = places.1 in
         let listed_too : k < length (handler arch h).emitters = slice_get_within (handler arch h).emitters k e has in
@@ -392,7 +393,7 @@ module _ (arch : Arch) (safe_arch : IsSafe arch) (keeps : KeepsNumbers arch) whe
   task_keeps x source lt =
       let hs : List ℕ = reached_by arch x in
       let below : source_memory arch x ≤ 1048576 = source_below x lt in
-      let all : task_words (task_of arch x source) ≤ source_memory arch x = words_small arch x source in
+      let all : task_words (task_of arch x source) ≤ source_memory arch x = task_within arch x source in
       let some : 1 ≤ message_words arch (on.Source x) = (wide (on.Source x)).0 in
       let few : message_words arch (on.Source x) ≤ 4096 = (wide (on.Source x)).1 in
       let buffers : length (all_buffers arch hs) ≤ sum (map (λ h. handler_memory arch (handler arch h)) hs) = few_buffers arch (λ o. (wide o).0) hs in
@@ -411,9 +412,9 @@ module _ (arch : Arch) (safe_arch : IsSafe arch) (keeps : KeepsNumbers arch) whe
   pub rules : KeepsRules (code_of arch)
   rules =
       let memory_below : memory arch ≤ 1048576 = in_memory in
-      let words_below : all_words (code_of arch) ≤ memory arch = memory_small arch in
+      let words_below : all_words (code_of arch) ≤ memory arch = words_within arch in
       let code_below : code arch ≤ 1000000 = safe_arch.within what.Code (code arch) refl in
-      let instructions_below : all_instructions (code_of arch) ≤ code arch = code_small arch safe_arch.typed in
+      let instructions_below : all_instructions (code_of arch) ≤ code arch = instructions_within arch in
       let monitors : length arch.monitors ≤ 1024 = safe_arch.within what.Monitors (length arch.monitors) refl in
       let outputs : length arch.outputs ≤ 1024 = safe_arch.within what.Outputs (length arch.outputs) refl in
       let sources : length arch.sources ≤ 64 = safe_arch.within what.Sources (length arch.sources) refl in

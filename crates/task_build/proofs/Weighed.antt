@@ -16,17 +16,16 @@ use Rattle.task_code.specs.Piece.{Piece, nil, ins, ◌▸◌, end, joined}
 use Rattle.task_code.specs.declared.frame.Frame.{Frame}
 use Rattle.stmt_code.specs.FrameOf.{binder_words, binders_of, frame_of}
 use Rattle.task_build.specs.CodeOf.{frames_from, end_of, handler_code, words_passed, call_code, head_code, taken_at, entries_from, handlers_code, unplaced, buffers_of, all_buffers, task_of, tasks_from, code_of}
-use Rattle.task_code.specs.declared.program.Instr.TheVariants.{Lock}
-use Rattle.stmt_code.specs.Layout.{layout_of}
-use Rattle.stmt_code.specs.Body.{stmts_code}
-use Rattle.emit_code.specs.Delivery.{Entry, entry_of, words_got, item_code, emitter_code, delivery_code}
-use Rattle.stmt_code.specs.Section.{cleared, bodies_code, section_code}
+use Rattle.emit_code.specs.Delivery.{Entry, entry_of, delivery_code}
+use Rattle.stmt_code.specs.Section.{section_code}
 use Rattle.lock_reduction.specs.Shaped.{priority_and_words, buffer_table, BeginsWithTake, Shaped}
 use Rattle.channel_graph.proofs.Members.{In}
 use Rattle.task_code.proofs.Lists.{cons_sum}
-use Rattle.task_build.proofs.Roots.{all_of}
+use Rattle.stmt_code.proofs.Roots.{all_of}
 use Rattle.task_code.proofs.Pieces.{size, size_is}
-use Rattle.stmt_code.proofs.Lengths.{stmts_size}
+use Rattle.stmt_code.proofs.FramesLaid.{bodies_sum}
+use Rattle.stmt_code.proofs.Sections.{section_size}
+use Rattle.emit_code.proofs.Lengths.{delivery_size}
 
 -- ---- lists and sums
 
@@ -79,47 +78,12 @@ calls_size entries taken width [] = omega arith
 calls_size entries taken width (to.Output o ∷ ls) = let q = calls_size entries taken width ls in omega (arith, q)
 calls_size entries taken width (to.Handler k ∷ ls) = let q = calls_size entries taken width ls in let r = call_size entries taken width (to.Handler k) in omega (arith, q, r)
 
-got_size : (n i b a j : ℕ) → size (words_got i b a j n) ≡ 4 * n
-got_size zero i b a j = omega arith
-got_size (suc n) i b a j = let q = got_size n i b a (suc j) in omega (arith, q)
-
-items_size : (entries : List Entry) (i b scratch width : ℕ) (ls : List Listener) → size (joined (map (item_code entries i b scratch width) ls)) ≤ subscribers_weight (λ k. 0) width ls
-items_size entries i b scratch width [] = omega arith
-items_size entries i b scratch width (to.Output o ∷ ls) = let q = items_size entries i b scratch width ls in let r = got_size width i b scratch 0 in omega (arith, q, r)
-items_size entries i b scratch width (to.Handler k ∷ ls) = let q = items_size entries i b scratch width ls in let r = got_size width i b (entry_of entries k).frame.param 0 in omega (arith, q, r)
-
 module _ (arch : Arch) where
-  abbrev delivered : Emitter → ℕ
-  delivered e = 32 + subscribers_weight (λ k. 0) (emitter_words arch e) (subs arch (on.Channel e.channel))
-
-  delivery_size : (entries : List Entry) (f : Frame) (es : List Emitter) (from k : ℕ) → size (delivery_code arch entries f from k es) ≤ sum (map delivered es)
-  delivery_size entries f [] from k = omega arith
-  delivery_size entries f (e ∷ es) from k =
-      let first = emitter_code entries from (f.temps + 2) (f.first_buffer + k) (slice_index_or f.scratch k 0) (emitter_words arch e) (subs arch (on.Channel e.channel)) in
-      let q = items_size entries (f.temps + 2) (f.first_buffer + k) (slice_index_or f.scratch k 0) (emitter_words arch e) (subs arch (on.Channel e.channel)) in
-      let r = delivery_size entries f es (end from first) (suc k) in
-      let s = cons_sum (delivered e) (map delivered es) in
-      omega (arith, q, r, s)
-
-  cleared_size : (n b : ℕ) → size (cleared b n) ≡ n
-  cleared_size zero b = refl
-  cleared_size (suc n) b = let q = cleared_size n (suc b) in omega (arith, q)
-
-  bodies_size : (h : Handler) (f : Frame) (bs : List Body) (i from : ℕ) → size (bodies_code arch h f i from bs) ≤ sum (map (λ b. stmts_weight standing (scope_of arch h b) b.stmts) bs)
-  bodies_size h f [] i from = omega arith
-  bodies_size h f (b ∷ bs) i from =
-      let q = stmts_size (layout_of arch h f i b) b.stmts from in
-      let r = bodies_size h f bs (suc i) (end from (stmts_code (layout_of arch h f i b) from b.stmts)) in
-      let s = cons_sum (stmts_weight standing (scope_of arch h b) b.stmts) (map (λ c. stmts_weight standing (scope_of arch h c) c.stmts) bs) in
-      omega (arith, q, r, s)
-
   handler_size : (entries : List Entry) (h : ℕ) (f : Frame) (from : ℕ) → size (handler_code arch entries h f from) ≤ handler_weight arch (handler arch h)
   handler_size entries h f from =
-      let hd = handler arch h in
-      let q1 = cleared_size (length hd.emitters) f.first_buffer in
-      let q2 = bodies_size hd f hd.callbacks 0 (end from (ins (Lock hd.monitor) ▸ cleared f.first_buffer (length hd.emitters))) in
-      let q3 = delivery_size entries f hd.emitters (end from (section_code arch hd f from)) 0 in
-      omega (arith, q1, q2, q3)
+      let q1 = section_size arch (handler arch h) f from in
+      let q2 = delivery_size arch entries f (handler arch h).emitters (end from (section_code arch (handler arch h) f from)) 0 in
+      omega (arith, q1, q2)
 
   handlers_size : (entries known : List Entry) (hs : List ℕ) (fs : List Frame) (from : ℕ) → size (handlers_code arch entries (entries_from arch known from hs fs)) ≤ sum (map (λ h. handler_weight arch (handler arch h)) hs)
   handlers_size entries known [] fs from = omega arith
@@ -130,7 +94,7 @@ module _ (arch : Arch) where
       let s = cons_sum (handler_weight arch (handler arch h)) (map (λ k. handler_weight arch (handler arch k)) hs) in
       omega (arith, q, r, s)
 
-  task_length : (x : ℕ) (source : Source) → length (task_of arch x source).code ≤ source_code arch x
+  pub task_length : (x : ℕ) (source : Source) → length (task_of arch x source).code ≤ source_code arch x
   task_length x source =
       let width = message_words arch (on.Source x) in
       let hs = reached_by arch x in
@@ -160,23 +124,6 @@ module _ (arch : Arch) where
       omega (arith, q, e)
 
   -- ---- words
-
-  binder_sum : (fields : Fields) → sum (map (λ f. words (shape_in (table_of arch.records) f.1)) fields) ≡ sum (map words (field_shapes (table_of arch.records) fields))
-  binder_sum [] = refl
-  binder_sum (f ∷ fs) =
-      let c1 = cons_sum (words (shape_in (table_of arch.records) f.1)) (map (λ g. words (shape_in (table_of arch.records) g.1)) fs) in
-      let c2 = cons_sum (words (shape_in (table_of arch.records) f.1)) (map words (field_shapes (table_of arch.records) fs)) in
-      let r = binder_sum fs in
-      omega (arith, c1, c2, r)
-
-  bodies_sum : (bs : List Body) → sum (map (λ b. sum (binder_words arch b)) bs) ≡ sum (map (λ b. sum (map words (field_shapes (table_of arch.records) b.binders))) bs)
-  bodies_sum [] = refl
-  bodies_sum (b ∷ bs) =
-      let c1 = cons_sum (sum (binder_words arch b)) (map (λ d. sum (binder_words arch d)) bs) in
-      let c2 = cons_sum (sum (map words (field_shapes (table_of arch.records) b.binders))) (map (λ d. sum (map words (field_shapes (table_of arch.records) d.binders))) bs) in
-      let q = binder_sum b.binders in
-      let r = bodies_sum bs in
-      omega (arith, c1, c2, q, r)
 
   -- a message of each emitter, and those that its buffer holds
   emitters_sum : (es : List Emitter) → sum (map (emitter_words arch) es) + sum (map (λ (b : Buffer). b.bound * b.width) (buffers_of arch es)) ≤ sum (map (λ e. (e.bound + 2) * emitter_words arch e) es)
@@ -216,11 +163,11 @@ module _ (arch : Arch) where
       let split : sum (map weight (all_buffers arch (h ∷ hs))) ≡ sum (map weight (buffers_of arch hd.emitters)) + sum (map weight (all_buffers arch hs)) =
       ap sum (map_append weight (buffers_of arch hd.emitters) (all_buffers arch hs)) ∙ sum_append (map weight (buffers_of arch hd.emitters)) (map weight (all_buffers arch hs)) in
       let q1 = emitters_sum hd.emitters in
-      let q2 = bodies_sum hd.callbacks in
+      let q2 = bodies_sum arch hd.callbacks in
       let r = buffers_sum hs in
       omega (arith, c1, c2, split, q1, q2, r)
 
-  task_within : (x : ℕ) (source : Source) → task_words (task_of arch x source) ≤ source_memory arch x
+  pub task_within : (x : ℕ) (source : Source) → task_words (task_of arch x source) ≤ source_memory arch x
   task_within x source =
       let q1 = frames_end (reached_by arch x) 0 0 (message_words arch (on.Source x)) in
       let q2 = buffers_sum (reached_by arch x) in
