@@ -214,4 +214,4 @@ visits arch p t x entries h cost lists u listed r acyclic framed stands callee b
     (delivery_visits arch p t x entries framed listed acyclic cost (length u.calls + 2) h r
     (λ k reached led. wider arch p t x entries (OfEntry arch x entries k) (InFrames arch x entries h) (TouchedBuffers arch x entries k) (InBuffers arch x entries h) (length u.calls + 2) (length u.calls + 2) (cost k) k (omega arith)
     (λ a f. as_called arch p t x entries h k a reached led f) (λ a f. buffers_called arch p t x entries h k a reached led f) (callee k led))
-    u b.formed (omega arith) (omega (arith, few)) lists u.place b.lists (λ q q_in. all_in (λ z. fits_item arch z ≡ true) (follow_from arch (handler arch h).emitters lists) q fit q_in) stands)
+    u b.formed (omega arith) (omega (arith, few)) lists u.place b.filled (λ q q_in. all_in (λ z. fits_item arch z ≡ true) (follow_from arch (handler arch h).emitters lists) q fit q_in) stands)

@@ -27,7 +27,7 @@ use Rattle.task_alone.specs.Visits.{Visits}
 use Rattle.task_alone.specs.SettingOf.{setting_of}
 use Rattle.task_alone.proofs.Visits.{weaker, leading, then_on, each}
 use Rattle.channel_graph.proofs.Members.{In}
-use Rattle.emit_code.proofs.Listed.{in_left, in_right, in_map}
+use Rattle.emit_code.proofs.Listed.{get_mapped, in_left, in_right, in_map}
 use Rattle.task_code.specs.Formed.{IsFormedBuffer}
 use Rattle.emit_code.specs.Entries.{Going}
 use Rattle.emit_code.proofs.Going.{Counts, Ready, Around}

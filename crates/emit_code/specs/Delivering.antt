@@ -33,7 +33,7 @@ pub record BeginsDelivery (arch : Arch) (t : Task) (entries : List Entry) (h : �
   pub free : u.held ≡ None
   pub formed : IsFormed t u
   pub calls : length u.calls + 2 ≤ 256
-  pub lists : HoldLists (buffers_at u (numbers_from (frame_in entries h).first_buffer (length (handler arch h).emitters))) lists
+  pub filled : HoldLists (buffers_at u (numbers_from (frame_in entries h).first_buffer (length (handler arch h).emitters))) lists
 
 -- the code of the delivery of h
 abbrev pub DeliveryStands : Arch → Task → List Entry → ℕ → ℕ → Type 0
