@@ -229,7 +229,7 @@ module _ (arch : Arch) (p : Program) (t : Task) (h : ℕ) (f : Frame) (a0 : ℕ)
           let l = length-map hd.emitters sent_shape in
           let many = c.formed.many in
           let has = has_frame.has_buffers in
-          hold_lists s.own.buffers (length hd.emitters) f.first_buffer e.lists (s.begun.fill.listed ∙ l) (λ k lt. one k lt (held_by k lt) (let q = size in omega (arith, q, many, has, lt))))
+          hold_lists s.own.buffers (length hd.emitters) f.first_buffer e.lists (s.begun.fill.listed ∙ l) (λ k lt. one k lt (held_by k lt) (let q = size in omega (arith, q, many, has, lt)))
         where
           one : (k : ℕ) → k < length hd.emitters → Holding (words (shape_at (map sent_shape hd.emitters) k)) (bound_of hd k) (list_at e.lists k) (buffer_at s.own.buffers (f.first_buffer + k)) → f.first_buffer + k < length s.own.buffers → HoldsList (slice_get s.own.buffers (f.first_buffer + k)) (list_at e.lists k)
           one k lt q there =

@@ -7,7 +7,6 @@ use Rattle.tower_types.specs.Value.{Value}
 use Rattle.tower_syntax.specs.Arch.{Arch, Handler, Body}
 use Rattle.tower_syntax.specs.Graph.{handler}
 use Rattle.tower_syntax.specs.Weights.{executed, standing, bodies_weight, section_by, stmts_weight, scope_of, memory}
-use Rattle.arch_checks.specs.declared.fault.What.TheVariants as what
 use Rattle.task_code.specs.declared.program.Buffer.{Buffer}
 use Rattle.task_code.specs.declared.program.Task.{Task}
 use Rattle.task_code.specs.Program.{Program}
@@ -125,14 +124,13 @@ module _ (arch : Arch) (p : Program) (t : Task) (h : ℕ) (f : Frame) (a : ℕ) 
       }
 
 pub do_effects : SectionsDoEffects
-do_effects arch p t h f a safe own has_frame stands =
-    let limit : memory arch ≤ 1048576 = safe.within what.Memory (memory arch) refl in (
-      length (handler arch h).emitters + bodies_weight executed arch (handler arch h),
-      omega arith,
-      λ message v fits fits_v u before.
-          section_does arch p t h f a has_frame stands message v u before
-          (λ o c. bodies_run arch p t h f a has_frame safe.typed safe.shallow (small_bodies arch h limit own) safe.bounded stands.1.0 message v fits fits_v o c),
-    )
+do_effects arch p t h f a typed shallow bounded limit own has_frame stands = (
+  length (handler arch h).emitters + bodies_weight executed arch (handler arch h),
+  omega arith,
+  λ message v fits fits_v u before.
+      section_does arch p t h f a has_frame stands message v u before
+      (λ o c. bodies_run arch p t h f a has_frame typed shallow (small_bodies arch h limit own) bounded stands.1.0 message v fits fits_v o c),
+)
 
 cleared_size : (n b : ℕ) → size (cleared b n) ≡ n
 cleared_size zero b = refl

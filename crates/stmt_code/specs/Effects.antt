@@ -4,7 +4,7 @@ use Rattle.tower_types.specs.Value.{Value, flat}
 use Rattle.tower_syntax.specs.declared.arch.Listener.TheVariants as to
 use Rattle.tower_syntax.specs.Arch.{Arch, Emitter}
 use Rattle.tower_syntax.specs.Graph.{handler}
-use Rattle.tower_syntax.specs.Weights.{message_words, emitter_words, section, section_by, standing, handler_memory}
+use Rattle.tower_syntax.specs.Weights.{message_words, emitter_words, section, section_by, standing, handler_memory, memory}
 use Rattle.tower_meaning.specs.System.{system_of}
 use Rattle.tower_meaning.specs.Fits.{fits_item, fits_monitor}
 use Rattle.task_code.specs.declared.frame.Frame.{Frame}
@@ -18,7 +18,9 @@ use Rattle.task_code.specs.Holds.{HoldLists, buffers_at}
 use Rattle.task_code.specs.Piece.{end, listed, Stands}
 use Rattle.task_alone.specs.Visits.{with_lock_of}
 use Rattle.task_alone.specs.SettingOf.{numbers_from}
-use Rattle.arch_checks.specs.Laws.{IsSafe}
+use Rattle.tower_syntax.specs.Typed.{IsTyped}
+use Rattle.arch_types.specs.Shallow.{IsShallow}
+use Rattle.channel_graph.specs.Over.{NoneOver}
 use Rattle.stmt_code.specs.FrameOf.{frame_of}
 use Rattle.stmt_code.specs.Section.{section_code}
 
@@ -67,8 +69,8 @@ pub record DoesEffect (arch : Arch) (p : Program) (t : Task) (h : ℕ) (f : Fram
 -- counted with its LOCK, its UNLOCK and the RET behind it.
 abbrev pub SectionsDoEffects : Type 0
 SectionsDoEffects =
-    (arch : Arch) (p : Program) (t : Task) (h : ℕ) (f : Frame) (a : ℕ) → IsSafe arch → handler_memory arch (handler arch h) ≤ 1048576
-    → HasFrame arch t h f → Stands t.code a (section_code arch (handler arch h) f a)
+    (arch : Arch) (p : Program) (t : Task) (h : ℕ) (f : Frame) (a : ℕ) → IsTyped arch → IsShallow arch → NoneOver arch → memory arch ≤ 1048576
+    → handler_memory arch (handler arch h) ≤ 1048576 → HasFrame arch t h f → Stands t.code a (section_code arch (handler arch h) f a)
     → (most : ℕ) × (most + 3 ≤ section arch (handler arch h))
     × ((message v : Value) → fits_item arch (to.Handler h, message) ≡ true → fits_monitor arch (handler arch h).monitor v ≡ true
     → (u : Own) → BeforeLock t f a message u → DoesEffect arch p t h f a most message v u)

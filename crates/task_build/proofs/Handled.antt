@@ -6,7 +6,7 @@ use Rattle.tower_syntax.specs.declared.arch.Listener.TheVariants as to
 use Rattle.tower_syntax.specs.Arch.{Arch}
 use Rattle.tower_syntax.specs.Graph.{handler, leads, Reaches, reached_by}
 use Rattle.tower_syntax.specs.WellNumbered.{AreListeners}
-use Rattle.tower_syntax.specs.Weights.{emitter_weight, section, handler_memory}
+use Rattle.tower_syntax.specs.Weights.{emitter_weight, section, handler_memory, memory}
 use Rattle.tower_meaning.specs.System.{Item}
 use Rattle.tower_meaning.specs.Fits.{fits_item, KeepsTypes}
 use Rattle.task_code.specs.declared.program.Task.{Task}
@@ -26,6 +26,7 @@ use Rattle.task_alone.proofs.Visits.{weaker, leading, then_on, handling}
 use Rattle.channel_graph.specs.Chain.{LeadsAlong}
 use Rattle.channel_graph.specs.Laws.{IsDelivery}
 use Rattle.channel_graph.proofs.Members.{In}
+use Rattle.arch_checks.specs.declared.fault.What.TheVariants as what
 use Rattle.arch_checks.specs.Laws.{IsSafe}
 use Rattle.stmt_code.specs.Section.{section_code}
 use Rattle.stmt_code.specs.Effects.{HasFrame, BeforeLock, DoesEffect}
@@ -43,7 +44,7 @@ sections_run arch p t x entries planned safe h r limit v fits u entered =
     let a : ℕ = place_in entries h in
     let f : Frame = frame_in entries h in
     let has_frame : HasFrame arch t h f = record { laid = planned.frame h r; room = planned.framed.room h r; has_buffers = planned.has_buffers h r; tables = λ k e has. planned.framed.tables h k e r has } in
-    let law = do_effects arch p t h f a safe limit has_frame (planned.stands h r).0 in
+    let law = do_effects arch p t h f a safe.typed safe.shallow safe.bounded (safe.within what.Memory (memory arch) refl) limit has_frame (planned.stands h r).0 in
     let before : BeforeLock t f a v u = record { is_at = entered.is_at; stack = entered.stack; free = entered.free; formed = entered.formed; message_there = entered.message } in (
       law.0,
       law.1,
