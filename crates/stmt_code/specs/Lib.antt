@@ -4,3 +4,4 @@ pub mod Body
 pub mod Section
 pub mod Effects
 pub mod FrameParts
+pub mod WorkedEmissions

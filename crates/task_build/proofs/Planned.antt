@@ -1,5 +1,5 @@
 -- How the code of a task is planned: where the code of each handler stands, and what its sections do.
-use Rattle.std.specs.Prelude.{◌≡◌, ◌^◌, ℕ, ◌+◌, ◌<◌, ◌≤◌, List, [], length, Some, None, slice_get, Contains}
+use Rattle.std.specs.Prelude.{◌≡◌, ◌^◌, ℕ, ◌+◌, ◌<◌, ◌≤◌, List, [], length, true, Some, None, slice_get, Contains}
 use Rattle.tower_types.specs.Value.{Value, flat}
 use Rattle.tower_syntax.specs.declared.arch.On.TheVariants as on
 use Rattle.tower_syntax.specs.declared.arch.Listener.TheVariants as to
