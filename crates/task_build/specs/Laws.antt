@@ -24,6 +24,10 @@ ProgramsAreAlone = (bs : List ℕ) (arch : Arch) → IsAccepted bs arch → Alon
 abbrev pub ProgramsKeepRules : Type 0
 ProgramsKeepRules = (bs : List ℕ) (arch : Arch) → IsAccepted bs arch → KeepsRules (code_of arch)
 
+-- no place in the code of a task is above the limit on instructions
+abbrev pub PlacesAreSmall : Type 0
+PlacesAreSmall = (bs : List ℕ) (arch : Arch) → IsAccepted bs arch → (x : ℕ) (t : Task) → slice_get (code_of arch).tasks x ≡ Some t → length t.code ≤ 1000000
+
 -- an event record that fits the system fits its program
 abbrev pub EventsFit : Type 0
 EventsFit = (bs : List ℕ) (arch : Arch) → IsAccepted bs arch → (events : Events) → Fit arch events → Fits (code_of arch) events

@@ -1,6 +1,6 @@
 //! What holds of the program of each accepted system. Each body is empty: the contract is the law.
 
-ghost use Rattle.task_build.specs.Laws.{ProgramsAreSound, ProgramsAreAlone, ProgramsKeepRules, EventsFit, ProgramsAreShaped};
+ghost use Rattle.task_build.specs.Laws.{ProgramsAreSound, ProgramsAreAlone, ProgramsKeepRules, PlacesAreSmall, EventsFit, ProgramsAreShaped};
 
 /// The headline: the program of each accepted system is sound, with no condition left.
 pub fn programs_are_sound()
@@ -8,6 +8,7 @@ pub fn programs_are_sound()
     ensures alone { ProgramsAreAlone }
     ensures shaped { ProgramsAreShaped }
     ensures rules { ProgramsKeepRules }
+    ensures places { PlacesAreSmall }
 {}
 
 /// What fits an accepted system fits its program, so a machine can be made for each record that fits.
