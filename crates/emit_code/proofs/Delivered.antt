@@ -24,7 +24,7 @@ use Rattle.task_alone.proofs.Visits.{weaker}
 use Rattle.channel_graph.proofs.Members.{In, filter_has}
 use Rattle.channel_graph.proofs.Linked.{Link, of_link}
 use Rattle.emit_code.specs.Delivery.{Entry, delivery_code}
-use Rattle.emit_code.specs.Entries.{Behind, next, later, frame_in, place_in, InFrame, InFrames, InOwn, Touched, InBuffers, OwnBuffers, TouchedBuffers, HasParts, IsFramed, Returned, Carries, Going}
+use Rattle.emit_code.specs.Entries.{Behind, next, later, NoneComesBack, frame_in, place_in, InFrame, InFrames, InOwn, Touched, InBuffers, OwnBuffers, TouchedBuffers, HasParts, IsFramed, Returned, Carries, Going}
 use Rattle.emit_code.specs.Delivering.{OfEntry, BeginsDelivery, delivery_end, DeliveryVisits}
 use Rattle.emit_code.proofs.Going.{Ready}
 use Rattle.emit_code.proofs.Emitted.{buffer_of, Feeds, AreFed, delivers}
@@ -59,7 +59,7 @@ module _ (arch : Arch) (p : Program) (t : Task) (x : ℕ) (entries : List Entry)
   buffers_called h k b r led (inl f) = record { number = f.number; reached = f.reached; follows = follows_on arch h k f.number led f.follows; from = f.from; before = f.before }
   buffers_called h k b r led (inr own) = record { number = k; reached = r; follows = next k led; from = own.0; before = own.1 }
 
-module _ (arch : Arch) (p : Program) (t : Task) (x : ℕ) (entries : List Entry) (framed : IsFramed arch p t x entries) (listed : AreListeners arch) (acyclic : (h : ℕ) → Reaches arch x h → Behind arch h h → ⊥) (cost : ℕ → ℕ) where
+module _ (arch : Arch) (p : Program) (t : Task) (x : ℕ) (entries : List Entry) (framed : IsFramed arch p t x entries) (listed : AreListeners arch) (acyclic : NoneComesBack arch x) (cost : ℕ → ℕ) where
   abbrev frames : ℕ → ℕ → Type 0
   frames h a = InFrames arch x entries h a
 

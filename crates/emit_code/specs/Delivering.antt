@@ -21,7 +21,7 @@ use Rattle.task_code.specs.Piece.{end, listed, Stands}
 use Rattle.task_alone.specs.Visits.{Visits}
 use Rattle.task_alone.specs.SettingOf.{setting_of, numbers_from}
 use Rattle.emit_code.specs.Delivery.{Entry, delivery_code}
-use Rattle.emit_code.specs.Entries.{frame_in, Behind, InFrame, InFrames, InBuffers, OwnBuffers, Touched, TouchedBuffers, IsFramed, Carries, Going}
+use Rattle.emit_code.specs.Entries.{frame_in, NoneComesBack, InFrame, InFrames, InBuffers, OwnBuffers, Touched, TouchedBuffers, IsFramed, Carries, Going}
 
 -- words and buffers of k, and of the handlers behind it
 abbrev pub OfEntry : Arch → ℕ → List Entry → ℕ → ℕ → Type 0
@@ -48,7 +48,7 @@ delivery_end arch entries h a = end a (delivery_code arch entries (frame_in entr
 abbrev pub DeliveryVisits : Type 0
 DeliveryVisits =
     (arch : Arch) (p : Program) (t : Task) (x : ℕ) (entries : List Entry) (h : ℕ) (cost : ℕ → ℕ) (lists : List (List Value)) (u : Own)
-    → AreListeners arch → Reaches arch x h → ((k : ℕ) → Reaches arch x k → Behind arch k k → ⊥) → IsFramed arch p t x entries → DeliveryStands arch t entries h u.place
+    → AreListeners arch → Reaches arch x h → NoneComesBack arch x → IsFramed arch p t x entries → DeliveryStands arch t entries h u.place
     → ((k : ℕ) → leads arch h k ≡ true → Carries arch p t x entries (length u.calls + 2) (OfEntry arch x entries k) (TouchedBuffers arch x entries k) (cost k) k)
     → BeginsDelivery arch t entries h lists u → All (λ q. fits_item arch q ≡ true) (follow_from arch (handler arch h).emitters lists)
     → Visits (setting_of arch) p t x (λ o. o ≡ u) ((setting_of arch).system.follow h lists) (sum (map (emitter_weight arch cost) (handler arch h).emitters))

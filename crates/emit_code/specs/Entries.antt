@@ -28,6 +28,10 @@ pub data Behind (arch : Arch) (h : ℕ) : ℕ → Type 0 where
   next : (k : ℕ) → leads arch h k ≡ true → Behind arch h k
   later : (j k : ℕ) → Behind arch h j → leads arch j k ≡ true → Behind arch h k
 
+-- no handler that source x reaches is behind itself
+abbrev pub NoneComesBack : Arch → ℕ → Type 0
+NoneComesBack arch x = (k : ℕ) → Reaches arch x k → Behind arch k k → ⊥
+
 -- the word a belongs to the frame of h
 abbrev pub InFrame : List Entry → ℕ → ℕ → Type 0
 InFrame entries h a = ((frame_in entries h).param ≤ a) × (a < (frame_in entries h).end)

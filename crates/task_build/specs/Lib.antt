@@ -1,2 +1,4 @@
 pub mod CodeOf
+pub mod TaskEntries
 pub mod Laws
+pub mod WorkedPrograms

@@ -1,6 +1,7 @@
 //! What holds of the program of each accepted system. Each body is empty: the contract is the law.
 
-ghost use Rattle.task_build.specs.Laws.{ProgramsAreSound, ProgramsAreAlone, ProgramsKeepRules, PlacesAreSmall, EventsFit, ProgramsAreShaped};
+ghost use Rattle.task_build.specs.WorkedPrograms.{WorkedPrograms};
+ghost use Rattle.task_build.specs.Laws.{ProgramsAreSound, ProgramsAreAlone, ProgramsKeepRules, PlacesAreSmall, EventsFit, ProgramsAreShaped, TasksAreFramed, EntriesCarry};
 
 /// The headline: the program of each accepted system is sound, with no condition left.
 pub fn programs_are_sound()
@@ -11,7 +12,19 @@ pub fn programs_are_sound()
     ensures places { PlacesAreSmall }
 {}
 
+/// In each task of the program of an accepted system the handlers that its source reaches have frames and buffers of
+/// their own, and each entry carries out its item within the weight `deliver`.
+pub fn entries_carry()
+    ensures framed { TasksAreFramed }
+    ensures carry { EntriesCarry }
+{}
+
 /// What fits an accepted system fits its program, so a machine can be made for each record that fits.
 pub fn events_fit()
     ensures { EventsFit }
+{}
+
+/// Worked programs: of one handler with a state, of one that tells two outputs, and of one with two emitters.
+pub fn worked_programs()
+    ensures { WorkedPrograms }
 {}
