@@ -24,10 +24,10 @@ use Rattle.task_alone.proofs.Visits.{weaker}
 use Rattle.channel_graph.proofs.Members.{In, filter_has}
 use Rattle.channel_graph.proofs.Linked.{Link, of_link}
 use Rattle.emit_code.specs.Delivery.{Entry, delivery_code}
-use Rattle.emit_code.specs.Entries.{Behind, next, later, NoneComesBack, frame_in, place_in, InFrame, InFrames, InOwn, Touched, InBuffers, OwnBuffers, TouchedBuffers, HasParts, IsFramed, Returned, Carries, Going}
+use Rattle.emit_code.specs.Entries.{Behind, next, later, NoneComesBack, frame_in, place_in, InFrame, InFrames, InOwn, Touched, InBuffers, OwnBuffers, TouchedBuffers, HasParts, buffer_for, IsFramed, Returned, Carries, Going}
 use Rattle.emit_code.specs.Delivering.{OfEntry, BeginsDelivery, delivery_end, DeliveryVisits}
 use Rattle.emit_code.proofs.Going.{Ready}
-use Rattle.emit_code.proofs.Emitted.{buffer_of, Feeds, AreFed, delivers}
+use Rattle.emit_code.proofs.Emitted.{Feeds, AreFed, delivers}
 use Rattle.emit_code.proofs.Listed.{same_on_channel, exists, all_in, get_in, first_held, not_held}
 
 pub follows_on : (arch : Arch) (h k g : ℕ) → leads arch h k ≡ true → Behind arch k g → Behind arch h g
@@ -149,7 +149,7 @@ module _ (arch : Arch) (p : Program) (t : Task) (x : ℕ) (entries : List Entry)
     module _ (o : Own) (formed : IsFormed t o) (calls : suc (length o.calls) ≤ n) (room : n ≤ 256) where
       feeds : (k : ℕ) (e : Emitter) (vs : List Value) (f : Filled) → slice_get (handler arch h).emitters k ≡ Some e → slice_get o.buffers (frame.first_buffer + k) ≡ Some f → f.count ≡ length vs → take f.count f.slots ≡ map flat vs → Feeds arch p t x entries cost n (frames h) (buffers h) (touched h) (buffers h) o frame k e vs
       feeds k e vs f at has count slots =
-          let is : slice_get t.buffers (frame.first_buffer + k) ≡ Some (buffer_of arch e) = framed.tables h k e r at in
+          let is : slice_get t.buffers (frame.first_buffer + k) ≡ Some (buffer_for arch e) = framed.tables h k e r at in
           let below : k < length (handler arch h).emitters = slice_get_within (handler arch h).emitters k e at in
           record {
             around = record {
@@ -163,7 +163,7 @@ module _ (arch : Arch) (p : Program) (t : Task) (x : ℕ) (entries : List Entry)
               room = room;
             };
             buffered = record { filled = f; has = has; count = count; slots = slots };
-            few = framed.few (frame.first_buffer + k) (buffer_of arch e) is;
+            few = framed.few (frame.first_buffer + k) (buffer_for arch e) is;
             ready = ready k e at;
           }
 

@@ -29,7 +29,8 @@ pub record HasFrame (arch : Arch) (t : Task) (h : ℕ) (f : Frame) : Type 0 wher
   pub laid : f ≡ frame_of arch h f.param f.first_buffer
   pub room : f.end ≤ t.room
   pub has_buffers : f.first_buffer + length (handler arch h).emitters ≤ length t.buffers
-  pub tables : (k : ℕ) (e : Emitter) → slice_get (handler arch h).emitters k ≡ Some e → slice_get t.buffers (f.first_buffer + k) ≡ Some (record { width = emitter_words arch e; bound = e.bound })
+  pub tables : (k : ℕ) (e : Emitter) → slice_get (handler arch h).emitters k ≡ Some e
+      → slice_get t.buffers (f.first_buffer + k) ≡ Some (record { width = emitter_words arch e; bound = e.bound })
 
 -- the words of the frame behind its message, and the buffers of the handler's emitters
 abbrev pub IsOwnWord : Arch → ℕ → Frame → ℕ → Type 0

@@ -28,9 +28,11 @@ small_layout = record {
 
 pub record WorkedEmissions : Type 0 where
   -- a name is emitted where it stands
-  pub name : listed (emit_code small_layout 0 0 (read (place (root.Binder 0) no_steps))) ≡ Push (pos 0) ∷ Ld 1 ∷ Bput 20 ∷ Push (pos 1) ∷ Ld 2 ∷ Bput 20 ∷ Badd 20 ∷ []
+  pub name : listed (emit_code small_layout 0 0 (read (place (root.Binder 0) no_steps)))
+      ≡ Push (pos 0) ∷ Ld 1 ∷ Bput 20 ∷ Push (pos 1) ∷ Ld 2 ∷ Bput 20 ∷ Badd 20 ∷ []
   -- so is a part with an index that the text gives
-  pub part : listed (emit_code small_layout 0 0 (read (place (root.Binder 1) (at (lit U32 (pos 1)) no_steps)))) ≡ Push (pos 0) ∷ Ld 5 ∷ Bput 20 ∷ Push (pos 1) ∷ Ld 6 ∷ Bput 20 ∷ Badd 20 ∷ []
+  pub part : listed (emit_code small_layout 0 0 (read (place (root.Binder 1) (at (lit U32 (pos 1)) no_steps))))
+      ≡ Push (pos 0) ∷ Ld 5 ∷ Bput 20 ∷ Push (pos 1) ∷ Ld 6 ∷ Bput 20 ∷ Badd 20 ∷ []
   -- a state goes through the words of its emitter
   pub state : listed (emit_code small_layout 0 0 (read (place (root.State 0) no_steps)))
       ≡ Push (pos 0) ∷ Ldm 4 0 1 ∷ St 10 ∷ Push (pos 0) ∷ Ldm 4 1 1 ∷ St 11
@@ -39,4 +41,5 @@ pub record WorkedEmissions : Type 0 where
   pub moving : listed (emit_code small_layout 0 1 (read (place (root.Binder 0) (at (read (place root.Param no_steps)) no_steps))))
       ≡ Ld 0 ∷ St 7 ∷ Ld 7 ∷ Ldx 1 2 ∷ St 12 ∷ Push (pos 0) ∷ Ld 12 ∷ Bput 21 ∷ Badd 21 ∷ []
   -- and a number
-  pub number : listed (emit_code small_layout 0 1 (bin Add U32 (read (place root.Param no_steps)) (lit U32 (pos 1)))) ≡ Ld 0 ∷ Push (pos 1) ∷ Bin Add U32 ∷ St 12 ∷ Push (pos 0) ∷ Ld 12 ∷ Bput 21 ∷ Badd 21 ∷ []
+  pub number : listed (emit_code small_layout 0 1 (bin Add U32 (read (place root.Param no_steps)) (lit U32 (pos 1))))
+      ≡ Ld 0 ∷ Push (pos 1) ∷ Bin Add U32 ∷ St 12 ∷ Push (pos 0) ∷ Ld 12 ∷ Bput 21 ∷ Badd 21 ∷ []

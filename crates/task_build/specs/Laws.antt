@@ -34,7 +34,8 @@ abbrev pub EntriesCarry : Type 0
 EntriesCarry =
     (bs : List ℕ) (arch : Arch) → IsAccepted bs arch → (x : ℕ) (source : Source) → slice_get arch.sources x ≡ Some source → (h : ℕ) → Reaches arch x h
     → (calls : ℕ) → calls + 100 ≤ 256
-    → Carries arch (code_of arch) (task_of arch x source) x (entries_of arch x) calls (Touched arch x (entries_of arch x) h) (TouchedBuffers arch x (entries_of arch x) h) (deliver arch h) h
+    → Carries arch (code_of arch) (task_of arch x source) x (entries_of arch x) calls
+    (Touched arch x (entries_of arch x) h) (TouchedBuffers arch x (entries_of arch x) h) (deliver arch h) h
 
 -- it keeps the rules of programs
 abbrev pub ProgramsKeepRules : Type 0
@@ -42,7 +43,8 @@ ProgramsKeepRules = (bs : List ℕ) (arch : Arch) → IsAccepted bs arch → Kee
 
 -- no place in the code of a task is above the limit on instructions
 abbrev pub PlacesAreSmall : Type 0
-PlacesAreSmall = (bs : List ℕ) (arch : Arch) → IsAccepted bs arch → (x : ℕ) (t : Task) → slice_get (code_of arch).tasks x ≡ Some t → length t.code ≤ 1000000
+PlacesAreSmall =
+    (bs : List ℕ) (arch : Arch) → IsAccepted bs arch → (x : ℕ) (t : Task) → slice_get (code_of arch).tasks x ≡ Some t → length t.code ≤ 1000000
 
 -- an event record that fits the system fits its program
 abbrev pub EventsFit : Type 0

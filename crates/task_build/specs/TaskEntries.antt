@@ -18,4 +18,6 @@ taken_of arch x = taken_at (known_of arch x) (subs arch (on.Source x))
 
 -- the entries of the task of source x
 abbrev pub entries_of : Arch → ℕ → List Entry
-entries_of arch x = entries_from arch (known_of arch x) (end 0 (head_code arch (known_of arch x) x (taken_of arch x) (message_words arch (on.Source x)))) (reached_by arch x) (frames_from arch 0 0 (reached_by arch x))
+entries_of arch x =
+    let head = head_code arch (known_of arch x) x (taken_of arch x) (message_words arch (on.Source x)) in
+    entries_from arch (known_of arch x) (end 0 head) (reached_by arch x) (frames_from arch 0 0 (reached_by arch x))

@@ -1,6 +1,6 @@
 -- The code of an emission puts the words into the buffer as its next message, and changes nothing else.
-use Rattle.std.proofs.Common.{◌≡◌, ◌∙◌, ℕ, zero, suc, ◌+◌, ◌-◌, ◌*◌, ◌<◌, ◌≤◌, ℤ, pos, List, [], ◌∷◌, ◌++◌, length, take, drop, Some, refl, sym, ap, subst, arith, append_assoc, slice_get, slice_set, slice_index_or, get_or-set_same, length-set}
-use Rattle.std.proofs.lemmas.List.{append-nil, length-append, length-take-le, length-drop}
+use Rattle.std.proofs.Common.{◌≡◌, ◌∙◌, ℕ, zero, suc, ◌+◌, ◌-◌, ◌*◌, ◌<◌, ◌≤◌, ℤ, pos, List, [], ◌∷◌, ◌++◌, length, take, drop, Some, refl, sym, ap, subst, arith, append_assoc, slice_get, slice_set, get_or-set_same, length-set}
+use Rattle.std.proofs.lemmas.List.{length-append, length-take-le, length-drop}
 use Rattle.std.proofs.lemmas.Option.{slice_get-get_or, slice_get_within}
 use Rattle.task_code.specs.declared.program.Buffer.{Buffer}
 use Rattle.task_code.specs.declared.program.Task.{Task}
@@ -8,10 +8,9 @@ use Rattle.task_code.specs.Program.{Program}
 use Rattle.task_code.specs.Own.{Filled, Own}
 use Rattle.task_code.specs.Does.{Private, does, word_at, slot, with_word, with_count}
 use Rattle.task_code.specs.Leads.{Leads, at}
-use Rattle.task_code.specs.Formed.{IsFormedBuffer}
-use Rattle.task_code.specs.Piece.{end, listed, Stands}
+use Rattle.task_code.specs.Piece.{end, Stands}
 use Rattle.task_code.specs.Emission.{words_put, emission}
-use Rattle.task_code.specs.Emitting.{with_message, emitted, EmissionEmits, EmissionIsShort}
+use Rattle.task_code.specs.Emitting.{with_message, EmissionEmits, EmissionIsShort}
 use Rattle.task_code.proofs.Leads as leads
 use Rattle.task_code.proofs.Lists.{set_same, set_twice, set_as_was}
 use Rattle.task_code.proofs.Pieces.{size, size_is}
