@@ -12,6 +12,7 @@ pub mod File
 pub mod Listed
 pub mod Numbered
 pub mod Turns
+pub mod FileWalk
 pub mod Worked
 pub mod WorkedTable
 pub mod WorkedNumbers

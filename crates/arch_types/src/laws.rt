@@ -2,6 +2,7 @@
 ghost use Rattle.arch_types.specs.Worked.{WorkedTypes};
 ghost use Rattle.arch_types.specs.WorkedTable.{WorkedTable, WorkedFile};
 ghost use Rattle.arch_types.specs.Laws.{CheckedLaw, ScalarsLaw, ShallowLaw, TreesAreDetermined, TypesAreDecided, NoMemoryIsNoOffence, TreesAreInOrder};
+ghost use Rattle.arch_types.specs.FileWalk.{FileWalkIsRight};
 ghost use Rattle.arch_types.specs.WorkedNumbers.{WorkedNumbers};
 
 /// Worked statements. The body is empty: the check computes what the contract says.
@@ -17,6 +18,11 @@ pub fn worked_table()
 /// A file in which a state takes a message of its type, and of another.
 pub fn worked_file()
     ensures { WorkedFile }
+{}
+
+/// The walk over a file whose names are numbered gives its checked tree, in which nothing offends, or its first offence.
+pub fn file_walk_is_right()
+    ensures { FileWalkIsRight }
 {}
 
 /// The checked tree of a file whose names are numbered is well numbered and typed.

@@ -11,8 +11,9 @@ use std::marker::Model;
 /// Texts by name in memory, with the numbers of the calls that are to fail.
 ///
 /// The calls of `begin` and `next` are counted together, from 0; a `begin` that answers `NoMemory` is
-/// not counted. The calls whose numbers are given fail, and a `begin` of an absent name. No other call
-/// fails. Where a name stands more than once, the first entry is its text.
+/// counted too. The calls whose numbers are given fail, unless they answer `NoMemory`, and so does a
+/// `begin` of an absent name. No other call fails. Where a name stands more than once, the first entry
+/// is its text.
 #[derive(Drop)]
 pub struct MemShelf {
     texts: Texts,
@@ -91,7 +92,7 @@ impl MemShelf {
 
 impl Shelf for MemShelf {
     ghost use Rattle.std.specs.Prelude.{Some};
-    ghost use Rattle.tower_io.specs.MemoryShelves.{closed, begin_of, next_of};
+    ghost use Rattle.tower_io.specs.MemoryShelves.{closed, counted, begin_of, next_of};
     ghost use Rattle.tower_io.specs.Texts.{text_of};
 
     ghost held = { λ s name. text_of s.library.entries name };
@@ -115,18 +116,19 @@ impl Shelf for MemShelf {
         }
     }
 
-    /// Copies the name first. A call that answers `NoMemory` is not counted.
+    /// Copies the name first, and answers `NoMemory` where it cannot. Each call is counted, whatever it
+    /// answers.
     fn begin(&mut self, alloc: Global, name: &str) -> Begin
         ensures answer { UnlessBeginNoMemory result (result ≡ (begin_of self.old name.now).0) }
         ensures after { UnlessBeginNoMemory result (self.new ≡ (begin_of self.old name.now).1) }
-        ensures no_memory { OnBeginNoMemory result (self.new ≡ closed self.old) }
+        ensures no_memory { OnBeginNoMemory result (self.new ≡ counted (closed self.old)) }
         ensures never_falls { self.old.faults ≤ self.new.faults }
     {
         self.texts.close();
+        let is_to_fail = self.count();
         let Ok(name) = String::from_str(alloc, name) else {
             return Begin::NoMemory;
         };
-        let is_to_fail = self.count();
         let is_there = self.texts.open(name);
         if is_to_fail || !is_there {
             self.fail();

@@ -6,3 +6,4 @@ pub mod Values
 pub mod Statements
 pub mod Effects
 pub mod KeepsTypes
+pub mod Replayed

@@ -102,16 +102,6 @@ act system events s (mark.Out x) = put s x (slice_get s.pending x)
 abbrev pub replay : System → Events → List Mark → Option Atomic
 replay system events marks = fold (λ s m. option_and_then (λ t. act system events t m) s) (Some (start system)) marks
 
--- the first mark that is undefined, where those before it lead to s; the next has the number k
-abbrev pub misfit_from : System → Events → ℕ → Atomic → List Mark → Option ℕ
-misfit_from system events k s [] = None
-misfit_from system events k s (m ∷ ms) =
-    elim (act system events s m) [ None ↦ Some k | Some t ↦ misfit_from system events (k + 1) t ms ]
-
--- the number of the first misfit, counted from 1
-abbrev pub first_misfit : System → Events → List Mark → Option ℕ
-first_misfit system events marks = misfit_from system events 1 (start system) marks
-
 -- ---- which events a system can have
 
 -- a signal source, and a value that fits it

@@ -1,6 +1,7 @@
 pub mod Body
 pub mod System
 pub mod Atomic
+pub mod Replayed
 pub mod Fitting
 pub mod WorkedBodies
 pub mod WorkedRuns

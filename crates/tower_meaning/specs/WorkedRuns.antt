@@ -6,7 +6,8 @@ use Rattle.tower_syntax.specs.declared.event.Mark.TheVariants.{Arrive, Start, Ru
 use Rattle.tower_syntax.specs.Arch.{Arch, Entry, tick, signal, Events}
 use Rattle.tower_syntax.specs.Examples.{clock, two, inv, share, dia, order, nav, late, burst}
 use Rattle.tower_meaning.specs.System.{system_of}
-use Rattle.tower_meaning.specs.Atomic.{Atomic, replay, first_misfit}
+use Rattle.tower_meaning.specs.Atomic.{Atomic, replay}
+use Rattle.tower_meaning.specs.Replayed.{first_misfit}
 use Rattle.tower_meaning.specs.WorkedBodies.{list, whole, holding}
 
 -- ---- words to say them with

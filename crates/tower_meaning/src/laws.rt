@@ -5,6 +5,7 @@ ghost use Rattle.tower_syntax.specs.Typed.{IsTyped};
 ghost use Rattle.tower_syntax.specs.WellNumbered.{IsWellNumbered};
 ghost use Rattle.tower_meaning.specs.Atomic.{Fit};
 ghost use Rattle.tower_meaning.specs.Fits.{KeepsTypes, BringsFitting};
+ghost use Rattle.tower_meaning.specs.Replayed.{ReplayedComesTo, NoMisfitIsDefined};
 ghost use Rattle.tower_meaning.specs.WorkedBodies.{Arithmetic, Statements};
 ghost use Rattle.tower_meaning.specs.WorkedRuns.{Deliveries, Orders, Misfits, Places, Barrier, Depths};
 ghost use Rattle.tower_meaning.specs.WorkedFlight.{Flight};
@@ -58,4 +59,11 @@ pub fn worked_flight()
 pub fn meaning_keeps_types()
     ensures keeps { (arch : Arch) → IsWellNumbered arch → IsTyped arch → KeepsTypes arch }
     ensures brings { (arch : Arch) (events : Events) → IsTyped arch → Fit arch events → BringsFitting arch events }
+{}
+
+/// A replay comes to the state that its marks lead to, where all fit, and else to its first misfit and the state before
+/// that. There is no misfit exactly where the replay is defined.
+pub fn first_misfit_law()
+    ensures comes_to { ReplayedComesTo }
+    ensures no_misfit { NoMisfitIsDefined }
 {}

@@ -22,4 +22,7 @@ pub mod StmtsBack
 pub mod ItemsBack
 pub mod ReadsBack
 pub mod SameLine
+pub mod SpelledRows
+pub mod SpelledNodes
+pub mod SpelledPrints
 pub mod PrintedRows

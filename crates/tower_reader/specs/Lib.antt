@@ -9,6 +9,7 @@ pub mod View
 pub mod Verdict
 pub mod Standing
 pub mod Alike
+pub mod Forms
 pub mod Laws
 pub mod Worked
 pub mod WorkedPrinted

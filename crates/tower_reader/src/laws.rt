@@ -1,5 +1,5 @@
 //! The laws of the definitions. Each is the contract of a function that does nothing.
-ghost use Rattle.tower_reader.specs.Laws.{VerdictSpells, VerdictFault, PrintReadsBack, AlikePrintSame, SamePrintAlike};
+ghost use Rattle.tower_reader.specs.Laws.{VerdictSpells, VerdictFault, SpelledIsPrintable, SpelledPrintsAsWritten, PrintReadsBack, AlikePrintSame, SamePrintAlike};
 ghost use Rattle.tower_reader.specs.WorkedPrinted.{WorkedPrinted};
 ghost use Rattle.tower_reader.specs.Worked.{WorkedTrees, WorkedTokens, WorkedForms, WorkedNumbers};
 
@@ -7,6 +7,13 @@ ghost use Rattle.tower_reader.specs.Worked.{WorkedTrees, WorkedTokens, WorkedFor
 pub fn verdict_law()
     ensures spells { VerdictSpells }
     ensures fault { VerdictFault }
+{}
+
+/// What a text spells can be printed, so its names and numbers are in their ranges. The line that it is printed as has the
+/// nodes of the text, in their order.
+pub fn spelled_is_printable()
+    ensures printable { SpelledIsPrintable }
+    ensures as_written { SpelledPrintsAsWritten }
 {}
 
 /// What is printed of a tree reads back: where the line is within the byte limit, it spells the same tree, offsets apart.
