@@ -7,3 +7,5 @@ pub mod Start
 pub mod Agree
 pub mod Instance
 pub mod Counter
+pub mod Wrong
+pub mod Consequences

@@ -1,0 +1,27 @@
+-- What a user asks of every run of a sound program.
+use Rattle.std.specs.Prelude.{◌≡◌, ◌≢◌, ℕ, ◌<◌, [], length, map, Some, slice_get}
+use Rattle.tower_types.specs.Value.{flat}
+use Rattle.tower_syntax.specs.Arch.{Arch, Events}
+use Rattle.tower_meaning.specs.System.{system_of}
+use Rattle.tower_meaning.specs.Atomic.{Atomic, replay}
+use Rattle.task_code.specs.Program.{Program}
+use Rattle.task_code.specs.Own.{held_monitor}
+use Rattle.task_code.specs.Machine.{queue}
+use Rattle.task_code.specs.Standing.{IsIdle, IsWaiting, IsReady, standing}
+use Rattle.task_code.specs.Run.{Run}
+
+-- the marks replay, and what OUT wrote is what the replay gives, in its order
+abbrev pub GivesOutputs : Arch → Events → Run → Type 0
+GivesOutputs arch events r =
+    (a : Atomic) × (replay (system_of arch) events r.marks ≡ Some a) × (r.written ≡ map (λ o. (o.0, flat o.1)) a.outputs)
+
+-- no task waits for a lock that it holds itself
+abbrev pub NoneWaitsForItself : Program → Events → Run → Type 0
+NoneWaitsForItself p events r =
+    (x m k : ℕ) → standing p events r.machine x ≡ IsWaiting m → slice_get (map held_monitor r.machine.tasks) x ≢ Some (Some k)
+
+-- where no task can step, all are idle and no message waits
+abbrev pub RestsIdle : Program → Events → Run → Type 0
+RestsIdle p events r =
+    ((x : ℕ) → x < length p.tasks → standing p events r.machine x ≢ IsReady)
+    → (x : ℕ) → x < length p.tasks → (standing p events r.machine x ≡ IsIdle) × (queue r.machine x ≡ [])
