@@ -1,4 +1,4 @@
-ghost use Rattle.std.specs.Prelude.{◌≡◌, ◌<◌, [], ◌∷◌, ◌++◌, length, take, slice_set, OnOk, OnErr};
+ghost use Rattle.std.specs.Prelude.{◌≡◌, ◌<◌, [], ◌∷◌, ◌++◌, length, take, slice_set, IfOk, OnOk, OnErr};
 ghost use Rattle.task_code.specs.Grows.{Keeps};
 
 use crate::program::Instr;
@@ -55,7 +55,18 @@ impl Code {
         Ok(())
     }
 
-    /// Writes the instruction at place `at` anew, as a jump whose target was not known.
+    /// Leaves room for a jump whose target is not known yet, and answers its place. Without room the code is as before.
+    pub fn hold(&mut self) -> Result<u32, NoMemory>
+        ensures ok { IfOk result (λ at. (at ≡ length self.old) × (self.new ≡ self.old ++ Instr.Jmp 0 ∷ [])) }
+        ensures err { OnErr result (self.new ≡ self.old) }
+        ensures keeps { Keeps self.old self.new }
+    {
+        let at = self.place();
+        self.push(Instr::Jmp(0))?;
+        Ok(at)
+    }
+
+    /// Writes the instruction at place `at` anew.
     pub fn patch(&mut self, at: u32, instr: Instr)
         requires { at < length self.old }
         ensures { self.new ≡ slice_set self.old at instr }
