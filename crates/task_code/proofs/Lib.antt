@@ -2,3 +2,4 @@ pub mod Rows
 pub mod Leads
 pub mod Fitted
 pub mod Planned
+pub mod Grown

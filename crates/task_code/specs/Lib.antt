@@ -13,3 +13,4 @@ pub mod WorkedListing
 pub mod Piece
 pub mod Emission
 pub mod Holds
+pub mod Grows
