@@ -4,7 +4,7 @@ use Rattle.std.proofs.lemmas.Bool.{eq-eqb, ne_eqb, false≢true}
 use Rattle.task_code.specs.declared.frame.Frame.{Frame}
 use Rattle.task_code.specs.declared.frame.Frames.{Frames}
 use Rattle.emit_code.specs.Delivery.{Entry, no_entry, entry_of}
-use Rattle.emit_code.specs.Entries.{entries_from, entries_in}
+use Rattle.emit_code.specs.Framed.{entries_from, entries_in}
 
 pub pick_first : {A : Type 0} (b : Bool) (x y : A) → b ≡ true → (elim b [ true ↦ x | false ↦ y ]) ≡ x
 pick_first true x y e = refl

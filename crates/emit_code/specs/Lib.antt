@@ -1,5 +1,5 @@
 pub mod Delivery
 pub mod Emitted
-pub mod Entries
+pub mod Framed
 pub mod Heard
 pub mod Outgoing

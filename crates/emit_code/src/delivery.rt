@@ -6,7 +6,7 @@ ghost use Rattle.tower_syntax.specs.View.{emitter_of};
 ghost use Rattle.task_code.specs.Grows.{Keeps};
 ghost use Rattle.task_code.specs.Piece.{listed, joined};
 ghost use Rattle.emit_code.specs.Delivery.{entry_of, words_got, item_code, emitter_code};
-ghost use Rattle.emit_code.specs.Entries.{entries_in, HasEntry, delivery_of};
+ghost use Rattle.emit_code.specs.Framed.{entries_in, HasEntry, delivery_of};
 ghost use Rattle.emit_code.specs.Heard.{AreHeard};
 ghost use Rattle.emit_code.specs.Outgoing.{outgoing_of};
 

@@ -4,7 +4,7 @@ ghost use Rattle.std.specs.Prelude.{◌≡◌, ◌<◌, ◌++◌, length, OnOk, 
 ghost use Rattle.tower_syntax.specs.Graph.{handler};
 ghost use Rattle.task_code.specs.Piece.{listed};
 ghost use Rattle.emit_code.specs.Emitted.{emission_of};
-ghost use Rattle.emit_code.specs.Entries.{HasEntry, delivery_of};
+ghost use Rattle.emit_code.specs.Framed.{HasEntry, delivery_of};
 ghost use Rattle.emit_code.specs.Heard.{AreHeard};
 
 use crate::delivery::{add_delivery, number_at};

@@ -3,7 +3,7 @@ use Rattle.tower_syntax.specs.View.{emitter_of}
 use Rattle.tower_syntax.specs.Graph.{handler}
 use Rattle.task_code.specs.Piece.{listed}
 use Rattle.emit_code.specs.Delivery.{entry_of, delivery_code}
-use Rattle.emit_code.specs.Entries.{entries_in}
+use Rattle.emit_code.specs.Framed.{entries_in}
 use Rattle.emit_code.proofs.Added.{delivery-more, emitter_piece, piece_is}
 use Rattle.emit_code.proofs.Heeded.{channel_there, emitters_are, emitter_is, emitters_count, heard_is, take_whole}
 use Rattle.emit_code.proofs.delivery.add_delivery.Goals as goal

@@ -2,7 +2,7 @@ use Rattle.std.proofs.Common.{◌≡◌, ◌++◌, length, take}
 use Rattle.tower_syntax.specs.Graph.{handler}
 use Rattle.task_code.specs.Piece.{listed}
 use Rattle.emit_code.specs.Delivery.{entry_of, delivery_code}
-use Rattle.emit_code.specs.Entries.{entries_in}
+use Rattle.emit_code.specs.Framed.{entries_in}
 use Rattle.emit_code.proofs.delivery.add_delivery.Given as goal
 
 abbrev pub invariant-loop-k : goal.invariant-loop-k

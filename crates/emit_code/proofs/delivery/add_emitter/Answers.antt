@@ -2,7 +2,7 @@ use Rattle.std.proofs.Common.{◌≡◌, ◌+◌, [], ◌∷◌, length, pos, re
 use Rattle.tower_types.specs.declared.scalar.Scalar.TheVariants.{U64}
 use Rattle.tower_types.specs.declared.scalar.BinOp.TheVariants.{Add, Less}
 use Rattle.task_code.specs.declared.program.Instr.TheVariants.{Push, Ld, St, Bin, Jmp, Jz, Bcnt}
-use Rattle.emit_code.specs.Entries.{entries_in}
+use Rattle.emit_code.specs.Framed.{entries_in}
 use Rattle.emit_code.proofs.Added.{emitter_added}
 use Rattle.emit_code.proofs.delivery.add_emitter.Goals as goal
 

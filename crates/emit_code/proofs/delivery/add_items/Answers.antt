@@ -1,5 +1,5 @@
 use Rattle.emit_code.specs.Delivery.{item_code}
-use Rattle.emit_code.specs.Entries.{entries_in}
+use Rattle.emit_code.specs.Framed.{entries_in}
 use Rattle.emit_code.proofs.Added.{joined-more}
 use Rattle.emit_code.proofs.delivery.add_items.Goals as goal
 

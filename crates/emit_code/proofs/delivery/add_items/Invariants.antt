@@ -1,7 +1,7 @@
 use Rattle.std.proofs.Common.{◌≡◌, ◌++◌, map, take}
 use Rattle.task_code.specs.Piece.{listed, joined}
 use Rattle.emit_code.specs.Delivery.{item_code}
-use Rattle.emit_code.specs.Entries.{entries_in}
+use Rattle.emit_code.specs.Framed.{entries_in}
 use Rattle.emit_code.proofs.delivery.add_items.Given as goal
 
 abbrev pub invariant-loop-listener : goal.invariant-loop-listener
