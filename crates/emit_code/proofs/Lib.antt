@@ -1,3 +1,12 @@
 pub mod Looked
 pub mod Added
 pub mod Heeded
+pub mod Going
+pub mod Listed
+pub mod Copied
+pub mod Served
+pub mod Looped
+pub mod Emitted
+pub mod Delivered
+pub mod EmitterEmits
+pub mod Lengths

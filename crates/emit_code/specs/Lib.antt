@@ -3,3 +3,5 @@ pub mod Emitted
 pub mod Framed
 pub mod Heard
 pub mod Outgoing
+pub mod Entries
+pub mod Delivering

@@ -2,6 +2,7 @@
 #![tactic(auto)]
 
 mod delivery;
+pub mod laws;
 mod message;
 mod placing;
 mod subscribers;

@@ -4,6 +4,7 @@
 mod emits;
 mod exprs;
 mod framing;
+pub mod laws;
 mod layout;
 mod moved;
 mod part;

@@ -1,1 +1,2 @@
 pub mod CodeOf
+pub mod Laws

@@ -1,2 +1,4 @@
 //! The program of a system.
 #![tactic(auto)]
+
+pub mod laws;

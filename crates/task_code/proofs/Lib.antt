@@ -3,3 +3,7 @@ pub mod Leads
 pub mod Fitted
 pub mod Planned
 pub mod Grown
+pub mod Lists
+pub mod Pieces
+pub mod Emissions
+pub mod Formed

@@ -14,3 +14,5 @@ pub mod Piece
 pub mod Emission
 pub mod Holds
 pub mod Grows
+pub mod Formed
+pub mod Emitting
