@@ -1,9 +1,10 @@
 //! The code that delivers what a handler emitted: emitter by emitter, of each its messages in their order, and of each
 //! message its subscribers in file order.
 
-ghost use Rattle.std.specs.Prelude.{◌≡◌, ◌<◌, ◌+◌, ◌*◌, ◌++◌, length, map, slice_get, slice_index_or, Some, OnOk, IfOk};
+ghost use Rattle.std.specs.Prelude.{◌≡◌, ◌<◌, ◌+◌, ◌*◌, [], ◌∷◌, ◌++◌, length, map, slice_index_or, pos, OnOk, IfOk};
 ghost use Rattle.tower_syntax.specs.View.{emitter_of};
 ghost use Rattle.task_code.specs.Grows.{Keeps};
+ghost use Rattle.task_code.specs.declared.program.Instr.TheVariants.{Push};
 ghost use Rattle.task_code.specs.Piece.{listed, joined};
 ghost use Rattle.emit_code.specs.Delivery.{entry_of, words_got, item_code, emitter_code};
 ghost use Rattle.emit_code.specs.Framed.{entries_in, HasEntry, delivery_of};
@@ -84,6 +85,15 @@ fn add_all(code: &mut Code, instrs: &[Instr]) -> Result<(), NoMemory>
     Ok(())
 }
 
+/// Adds what pushes a number.
+fn add_number(code: &mut Code, n: u32) -> Result<(), NoMemory>
+    ensures ok { OnOk result (code.new ≡ code.old ++ Push (pos n) ∷ []) }
+    ensures keeps { Keeps code.old code.new }
+{
+    code.push(Instr::Push(i128::from(n)))?;
+    Ok(())
+}
+
 /// Adds the instructions that move the message which is counted into the words from `to` on.
 fn add_words(code: &mut Code, out: Outgoing, to: u32) -> Result<(), NoMemory>
     ensures ok { OnOk result (code.new ≡ code.old ++ listed (words_got out.counter out.buffer to 0 out.width)) }
@@ -91,9 +101,8 @@ fn add_words(code: &mut Code, out: Outgoing, to: u32) -> Result<(), NoMemory>
 {
     for j in 0..out.width {
         let address = to.checked_add(j).ok_or(NoMemory)?;
-        let word = i128::from(j);
         code.push(Instr::Ld(out.counter))?;
-        code.push(Instr::Push(word))?;
+        add_number(code, j)?;
         code.push(Instr::Bget(out.buffer))?;
         code.push(Instr::St(address))?;
     }
