@@ -46,7 +46,8 @@ fn silence(alloc: Global, arch: &Arch) -> Result<Vec<Items<Listener>>, NoMemory>
 
 /// For each channel, the outputs and handlers on it, in file order.
 pub fn channel_subscribers(alloc: Global, arch: &Arch) -> Result<Vec<Items<Listener>>, NoMemory>
-    ensures { IfOk result (λ heard. AreHeard arch.now heard.items) }
+    ensures heard { IfOk result (λ heard. AreHeard arch.now heard.items) }
+    ensures numbered { IsWellNumbered arch.now }
 {
     let mut heard = silence(alloc, arch)?;
     for listener in arch.listeners() {

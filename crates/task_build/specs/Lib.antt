@@ -1,2 +1,3 @@
 pub mod CodeOf
 pub mod Laws
+pub mod Tables
