@@ -35,7 +35,8 @@ fn join(heard: &mut Vec<Items<Listener>>, on: On, listener: Listener) -> Result<
 
 /// For each channel, no listener.
 fn silence(alloc: Global, arch: &Arch) -> Result<Vec<Items<Listener>>, NoMemory>
-    ensures { IfOk result (λ heard. AreHeardAmong arch.now [] heard.items) }
+    ensures heard { IfOk result (λ heard. AreHeardAmong arch.now [] heard.items) }
+    ensures numbered { IsWellNumbered arch.now }
 {
     let mut heard = Vec::new(alloc);
     for _c in 0..arch.channels().len() {

@@ -2,6 +2,7 @@
 
 ghost use Rattle.std.specs.Prelude.{◌≡◌, ◌≤◌, IfOk};
 ghost use Rattle.tower_syntax.specs.Weights.{memory, code};
+ghost use Rattle.tower_syntax.specs.WellNumbered.{IsWellNumbered};
 ghost use Rattle.task_code.specs.Rules.{all_words, all_instructions};
 ghost use Rattle.thread_split.specs.Plans.{plans_of};
 ghost use Rattle.emit_code.specs.Heard.{AreHeard};
@@ -27,6 +28,7 @@ fn tasks(
     plans: &[TaskPlan],
 ) -> Result<Items<Task>, NoMemory>
     requires heard { AreHeard arch.now heard.now }
+    requires numbered { IsWellNumbered arch.now }
     requires plans { plans.now ≡ plans_of arch.now }
     ensures { IfOk result (λ tasks. tasks ≡ tasks_from arch.now 0 arch.now.sources) }
 {

@@ -2,6 +2,7 @@
 
 ghost use Rattle.std.specs.Prelude.{◌≡◌, ◌<◌, ◌++◌, length, map, slice_get, Some, All, IfOk, OnOk};
 ghost use Rattle.tower_syntax.specs.Arch.{Source as Origin};
+ghost use Rattle.tower_syntax.specs.WellNumbered.{IsWellNumbered};
 ghost use Rattle.task_code.specs.Piece.{listed};
 ghost use Rattle.thread_split.specs.Plans.{plan_of};
 ghost use Rattle.emit_code.specs.Delivery.{entry_of};
@@ -86,6 +87,7 @@ fn code_of(
 ) -> Result<Items<Instr>, NoMemory>
     requires heard { AreHeard arch.now heard.now }
     requires source { plan.now.source < length arch.now.sources }
+    requires numbered { IsWellNumbered arch.now }
     requires plan { plan.now ≡ plan_of arch.now plan.now.source }
     ensures { IfOk result (λ code. (source : Origin) → code ≡ (task_of arch.now plan.now.source source).code) }
 {
@@ -108,6 +110,7 @@ pub(crate) fn task_of(
 ) -> Result<Task, NoMemory>
     requires heard { AreHeard arch.now heard.now }
     requires source { plan.now.source < length arch.now.sources }
+    requires numbered { IsWellNumbered arch.now }
     requires plan { plan.now ≡ plan_of arch.now plan.now.source }
     ensures { IfOk result (λ task. (source : Origin) → slice_get arch.now.sources plan.now.source ≡ Some source
         → task ≡ task_of arch.now plan.now.source source) }
