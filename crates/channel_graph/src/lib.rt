@@ -35,4 +35,6 @@ pub use delivery::costs;
 pub use listening::subscribers;
 pub use longest::chain;
 pub use reach::reached;
-pub use size::memory;
+pub use scope::Scope;
+pub use shapes::part_type;
+pub use size::{memory, type_words, words_on};

@@ -16,7 +16,7 @@ use tower_syntax::{Arch, On, Place, PlaceStep, Root};
 use tower_types::Ty;
 
 /// The type of a field or element.
-fn part_type<'a>(arch: &'a Arch, ty: &'a Ty, step: &PlaceStep) -> Option<&'a Ty>
+pub fn part_type<'a>(arch: &'a Arch, ty: &'a Ty, step: &PlaceStep) -> Option<&'a Ty>
     requires { IsNumberedType (length arch.now.records) (ty_of ty.now) }
     ensures { MatchOption result
         (part_shape step.now (shape_by arch.now (ty_of ty.now)) ≡ no_shape)
@@ -75,7 +75,7 @@ impl<'a> Scope<'a> {
     }
 
     /// The type of the messages on an emitter of the handler.
-    pub(crate) fn emitter_type(&self, k: u32) -> Option<&'a Ty>
+    pub fn emitter_type(&self, k: u32) -> Option<&'a Ty>
         ensures { MatchOption result
             (shape_at (scope_at self.now).emitters k ≡ no_shape)
             (λ t. HasShape self.now.arch (shape_at (scope_at self.now).emitters k) (ty_of t.now)) }
@@ -87,7 +87,7 @@ impl<'a> Scope<'a> {
     }
 
     /// The type that a place begins at.
-    fn root_type(&self, root: Root) -> Option<&'a Ty>
+    pub fn root_type(&self, root: Root) -> Option<&'a Ty>
         ensures { MatchOption result
             (root_shape (scope_at self.now) root ≡ no_shape)
             (λ t. HasShape self.now.arch (root_shape (scope_at self.now) root) (ty_of t.now)) }

@@ -18,7 +18,7 @@ use tower_syntax::{Arch, Body, Emitter, Handler, Monitor, On};
 use tower_types::{Name, NoMemory, Ty, words};
 
 /// The words of a type.
-pub(crate) fn type_words(arch: &Arch, t: &Ty) -> u64
+pub fn type_words(arch: &Arch, t: &Ty) -> u64
     requires { IsNumberedType (length arch.now.records) (ty_of t.now) }
     ensures { result ≡ saturated (words (shape_in (table_of arch.now.records) (ty_of t.now))) }
 {
@@ -26,7 +26,7 @@ pub(crate) fn type_words(arch: &Arch, t: &Ty) -> u64
 }
 
 /// The words of a message from a source or channel.
-pub(crate) fn words_on(arch: &Arch, on: On) -> u64
+pub fn words_on(arch: &Arch, on: On) -> u64
     requires { IsNumberedOn arch.now on }
     ensures { result ≡ saturated (message_words arch.now on) }
 {

@@ -1,3 +1,7 @@
+pub mod Looked
+pub mod Added
+pub mod Heeded
+pub mod Joined
 pub mod Going
 pub mod Listed
 pub mod Copied

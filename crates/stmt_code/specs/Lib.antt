@@ -2,6 +2,9 @@ pub mod FrameOf
 pub mod Layout
 pub mod Body
 pub mod Section
+pub mod Codes
+pub mod There
+pub mod Seen
 pub mod Effects
 pub mod FrameParts
 pub mod WorkedEmissions

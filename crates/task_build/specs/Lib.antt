@@ -2,3 +2,4 @@ pub mod CodeOf
 pub mod TaskEntries
 pub mod Laws
 pub mod WorkedPrograms
+pub mod Tables

@@ -2,6 +2,7 @@ pub mod Rows
 pub mod Leads
 pub mod Fitted
 pub mod Planned
+pub mod Grown
 pub mod Lists
 pub mod Pieces
 pub mod Emissions

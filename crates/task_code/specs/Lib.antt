@@ -13,5 +13,6 @@ pub mod WorkedListing
 pub mod Piece
 pub mod Emission
 pub mod Holds
+pub mod Grows
 pub mod Formed
 pub mod Emitting

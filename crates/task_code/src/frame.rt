@@ -1,12 +1,4 @@
-//! Code that is being put together, and where a handler's words and buffers stand in a task.
-use crate::program::Instr;
 use sqlite_items::Items;
-
-/// Code that is being put together.
-#[derive(Debug, Drop)]
-pub struct Code {
-    pub instrs: Items<Instr>,
-}
 
 /// Where a handler's words and buffers stand in a task: addresses of private words, and the number of its first buffer.
 #[derive(Debug, Drop)]

@@ -1,0 +1,79 @@
+//! The code of a handler's section, from its LOCK to its UNLOCK.
+
+ghost use Rattle.std.specs.Prelude.{◌≡◌, ◌<◌, ◌++◌, ℕ, length, OnOk, OnErr};
+ghost use Rattle.tower_syntax.specs.Graph.{handler};
+ghost use Rattle.tower_syntax.specs.View.{handler_of};
+ghost use Rattle.tower_syntax.specs.WellNumbered.{IsNumberedHandler};
+ghost use Rattle.task_code.specs.Grows.{Keeps};
+ghost use Rattle.task_code.specs.Piece.{listed};
+ghost use Rattle.stmt_code.specs.Section.{cleared, bodies_code, section_code};
+
+use crate::layout::Layout;
+use crate::stmts::add_stmts;
+use arch_checks::Checked;
+use channel_graph::Scope;
+use task_code::{Code, Frame, Instr};
+use tower_syntax::{Arch, Handler};
+use tower_types::NoMemory;
+
+/// Adds what empties `n` buffers from `first` on, or some of it.
+fn add_cleared(code: &mut Code, first: u32, n: usize) -> Result<(), NoMemory>
+    ensures ok { OnOk result (code.new ≡ code.old ++ listed (cleared first n)) }
+    ensures keeps { Keeps code.old code.new }
+{
+    let mut buffer = first;
+    for _ in 0..n {
+        code.push(Instr::Bclr(buffer))?;
+        buffer = buffer.checked_add(1).ok_or(NoMemory)?;
+    }
+    Ok(())
+}
+
+/// Adds the instructions of a handler's callbacks, or some of them.
+fn add_bodies(arch: &Arch, h: &Handler, frame: &Frame, code: &mut Code) -> Result<(), NoMemory>
+    requires { IsNumberedHandler arch.now (handler_of h.now) }
+    ensures ok { OnOk result (code.new ≡ code.old ++ listed (bodies_code arch.now (handler_of h.now) frame.now 0 (length code.old) (handler_of h.now).callbacks)) }
+    ensures keeps { Keeps code.old code.new }
+{
+    for (i, body) in h.callbacks.as_slice().iter().enumerate() {
+        let layout = Layout::new(Scope::new(arch, h, body), h.monitor, frame, i);
+        add_stmts(body.stmts.as_slice(), &layout, code)?;
+    }
+    Ok(())
+}
+
+/// Adds the instructions of a handler's section, or some of them.
+fn add_section(arch: &Arch, h: &Handler, frame: &Frame, code: &mut Code) -> Result<(), NoMemory>
+    requires { IsNumberedHandler arch.now (handler_of h.now) }
+    ensures ok { OnOk result (code.new ≡ code.old ++ listed (section_code arch.now (handler_of h.now) frame.now (length code.old))) }
+    ensures keeps { Keeps code.old code.new }
+{
+    code.push(Instr::Lock(h.monitor))?;
+    add_cleared(code, frame.first_buffer, h.emitters.len())?;
+    add_bodies(arch, h, frame, code)?;
+    code.push(Instr::Unlock(h.monitor))?;
+    Ok(())
+}
+
+/// Adds the code of handler `handler` from its LOCK to its UNLOCK, whose words and buffers are those of `frame`. An
+/// address that is no `u32` is told as want of memory.
+pub fn place_body(
+    arch: &Checked,
+    handler: u32,
+    frame: &Frame,
+    code: &mut Code,
+) -> Result<(), NoMemory>
+    requires { handler < length arch.now.handlers }
+    ensures ok { OnOk result (code.new ≡ code.old ++ listed (section_code arch.now (handler arch.now handler) frame.now (length code.old))) }
+    ensures err { OnErr result (code.new ≡ code.old) }
+{
+    let start = code.place();
+    let system = arch.arch();
+    match add_section(system, system.handler(handler), frame, code) {
+        Ok(()) => Ok(()),
+        Err(fault) => {
+            code.shorten(start);
+            Err(fault)
+        }
+    }
+}

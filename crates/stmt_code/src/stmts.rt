@@ -1,0 +1,135 @@
+//! The instructions of statements.
+
+ghost use Rattle.std.specs.Prelude.{◌≡◌, ◌++◌, length, OnOk};
+ghost use Rattle.tower_syntax.specs.View.{expr_of, place_of, stmt_of, all_stmts_of};
+ghost use Rattle.task_code.specs.Grows.{Keeps};
+ghost use Rattle.task_code.specs.Piece.{listed};
+ghost use Rattle.stmt_code.specs.Body.{zeroed, set_code, copy_code, stmt_code, stmts_code};
+
+use crate::emits::add_emit;
+use crate::exprs::{add_expr, add_index, join};
+use crate::layout::Layout;
+use crate::moved::add_words_copied;
+use crate::place::{locate, place_words};
+use task_code::{Code, Instr};
+use tower_syntax::{Expr, Place, Stmt};
+use tower_types::{BinOp, NoMemory, Scalar};
+
+/// Adds what makes `n` words 0, from `address` on, or some of it.
+fn add_zeroed(code: &mut Code, address: u32, n: u32) -> Result<(), NoMemory>
+    ensures ok { OnOk result (code.new ≡ code.old ++ listed (zeroed address n)) }
+    ensures keeps { Keeps code.old code.new }
+{
+    for j in 0..n {
+        let at = address.checked_add(j).ok_or(NoMemory)?;
+        code.push(Instr::Push(0))?;
+        code.push(Instr::St(at))?;
+    }
+    Ok(())
+}
+
+/// Adds the instructions of a `set`, or some of them.
+fn add_set(p: &Place, e: &Expr, layout: &Layout<'_>, code: &mut Code) -> Result<(), NoMemory>
+    ensures ok { OnOk result (code.new ≡ code.old ++ listed (set_code layout.now (length code.old) (place_of p.now) (expr_of e.now))) }
+    ensures keeps { Keeps code.old code.new }
+{
+    let place = locate(layout, p, 0)?;
+    add_index(p, layout, code)?;
+    place.add_before(code)?;
+    add_expr(e, layout, code)?;
+    place.add_behind(code)?;
+    Ok(())
+}
+
+/// Adds the instructions of a `copy`, or some of them.
+fn add_copy(p: &Place, q: &Place, layout: &Layout<'_>, code: &mut Code) -> Result<(), NoMemory>
+    ensures ok { OnOk result (code.new ≡ code.old ++ listed (copy_code layout.now (length code.old) (place_of p.now) (place_of q.now))) }
+    ensures keeps { Keeps code.old code.new }
+{
+    let temps = layout.temps();
+    let second = temps.checked_add(1).ok_or(NoMemory)?;
+    let to = locate(layout, p, temps)?;
+    let source = locate(layout, q, second)?;
+    let width = place_words(layout, p)?;
+    add_index(p, layout, code)?;
+    to.add_kept(code)?;
+    add_index(q, layout, code)?;
+    source.add_kept(code)?;
+    add_words_copied(code, to, source, width)?;
+    Ok(())
+}
+
+/// Adds the head of a loop that counts in the word at `address`, or some of it, and answers the place of its test.
+fn add_loop_head(code: &mut Code, address: u32, turns: u32) -> Result<u32, NoMemory>
+{
+    code.push(Instr::Push(0))?;
+    code.push(Instr::St(address))?;
+    code.push(Instr::Ld(address))?;
+    code.push(Instr::Push(i128::from(turns)))?;
+    code.push(Instr::Bin(BinOp::Less, Scalar::U64))?;
+    code.hold()
+}
+
+/// Adds the end of a loop whose test stands at `test`, or some of it.
+fn add_loop_end(code: &mut Code, address: u32, test: u32) -> Result<(), NoMemory>
+{
+    code.push(Instr::Ld(address))?;
+    code.push(Instr::Push(1))?;
+    code.push(Instr::Bin(BinOp::Add, Scalar::U64))?;
+    code.push(Instr::St(address))?;
+    code.push(Instr::Jmp(test - 3))?;
+    let out = code.place();
+    code.patch(test, Instr::Jz(out));
+    Ok(())
+}
+
+/// Adds the instructions of statements, or some of them.
+#[cycle(stmts)]
+pub(crate) fn add_stmts(stmts: &[Stmt], layout: &Layout<'_>, code: &mut Code) -> Result<(), NoMemory>
+    ensures ok { OnOk result (code.new ≡ code.old ++ listed (stmts_code layout.now (length code.old) (all_stmts_of stmts.now))) }
+    ensures keeps { Keeps code.old code.new }
+{
+    for stmt in stmts {
+        add_stmt(stmt, layout, code)?;
+    }
+    Ok(())
+}
+
+/// Adds the instructions of a statement, or some of them.
+#[cycle(stmts)]
+fn add_stmt(stmt: &Stmt, layout: &Layout<'_>, code: &mut Code) -> Result<(), NoMemory>
+    ensures ok { OnOk result (code.new ≡ code.old ++ listed (stmt_code layout.now (length code.old) (stmt_of stmt.now))) }
+    ensures keeps { Keeps code.old code.new }
+{
+    match stmt {
+        Stmt::Bind(b, e) => {
+            add_expr(e, layout, code)?;
+            code.push(Instr::St(layout.binder(*b)))?;
+            Ok(())
+        }
+        Stmt::Local(b) => {
+            let words = layout.binder_words(*b)?;
+            add_zeroed(code, layout.binder(*b), words)?;
+            Ok(())
+        }
+        Stmt::Set(p, e) => add_set(p, e, layout, code),
+        Stmt::Copy(p, q) => add_copy(p, q, layout, code),
+        Stmt::Branch(e, first, second) => {
+            add_expr(e, layout, code)?;
+            let test = code.hold()?;
+            add_stmts(first.as_slice(), layout, code)?;
+            let jump = code.hold()?;
+            add_stmts(second.as_slice(), layout, code)?;
+            join(code, test, jump);
+            Ok(())
+        }
+        Stmt::Loop(b, turns, body) => {
+            let address = layout.binder(*b);
+            let test = add_loop_head(code, address, *turns)?;
+            add_stmts(body.as_slice(), layout, code)?;
+            add_loop_end(code, address, test)?;
+            Ok(())
+        }
+        Stmt::Emit(k, e) => add_emit(e, *k, layout, code),
+    }
+}
