@@ -3,3 +3,4 @@ pub mod Leads
 pub mod Fitted
 pub mod Planned
 pub mod Grown
+pub mod Joined
