@@ -7,3 +7,4 @@ pub mod Lists
 pub mod Pieces
 pub mod Emissions
 pub mod Formed
+pub mod Joined
