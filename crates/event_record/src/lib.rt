@@ -1,0 +1,11 @@
+//! Event records, scheduling choices and orders: three texts that are read line by line.
+#![tactic(auto)]
+
+mod choices;
+mod order;
+mod record;
+mod token;
+
+pub use choices::{ChoiceFault, ChoiceKind, read_choices};
+pub use order::{OrderFault, OrderKind, read_order};
+pub use record::{RecordFault, RecordKind, read_record};
