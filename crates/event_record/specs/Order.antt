@@ -3,12 +3,14 @@ use Rattle.std.specs.Prelude.{◌≡◌, ◌<◌, ℕ, List, [], ◌∷◌, Bool
 use Rattle.std.specs.List.{list_any}
 use Rattle.tower_syntax.specs.declared.event.Mark.{Mark}
 use Rattle.tower_syntax.specs.declared.event.Mark.TheVariants as mark
-use Rattle.tower_syntax.specs.Arch.{Arch}
+use Rattle.tower_syntax.specs.Arch.{Arch, Source}
+use Rattle.event_record.specs.declared.order.Act.{Act}
+use Rattle.event_record.specs.declared.order.Act.TheVariants.{Starts, Runs, Puts}
 use Rattle.event_record.specs.declared.order.OrderKind.{OrderKind}
 use Rattle.event_record.specs.declared.order.OrderKind.TheVariants as wrong
 use Rattle.event_record.specs.declared.order.OrderFault.{OrderFault}
 use Rattle.event_record.specs.declared.order.OrderFault.TheVariants as fault
-use Rattle.event_record.specs.Lines.{Bytes, words, say_nothing}
+use Rattle.event_record.specs.Lines.{Bytes, words, begins_with}
 use Rattle.event_record.specs.Numbers.{IsWithin}
 use Rattle.event_record.specs.Format.{Format, Spells, IsFirst}
 
@@ -19,20 +21,15 @@ abbrev pub other_lines : List Bytes
 other_lines =
     codes "out" ∷ codes "state" ∷ codes "held" ∷ codes "waiting" ∷ codes "pending" ∷ codes "lost" ∷ codes "count" ∷ codes "waits" ∷ codes "core" ∷ codes "done" ∷ codes "stopped" ∷ codes "misfit" ∷ []
 
-abbrev pub begin_other_line : List Bytes → Bool
-begin_other_line [] = false
-begin_other_line (w ∷ ws) = list_any (λ other. bytes_eq w other) other_lines
+abbrev pub begins_other_line : Bytes → Bool
+begins_other_line w = list_any (λ other. bytes_eq w other) other_lines
 
+-- words of a line that is passed over
 abbrev pub is_passed_over : List Bytes → Bool
-is_passed_over ws = say_nothing ws || begin_other_line ws
+is_passed_over [] = true
+is_passed_over (w ∷ ws) = begins_with 0x3B w || begins_other_line w
 
 -- ---- forms
-
--- what a mark is of
-pub data Act : Type 0 where
-  starts : Act
-  runs : Act
-  puts : Act
 
 -- an arrival, or a mark of the source with a name
 pub data Form : Type 0 where
@@ -41,9 +38,9 @@ pub data Form : Type 0 where
 
 pub data SpellsMark : List Bytes → Form → Type 0 where
   a_arrives : SpellsMark (codes "a" ∷ []) arrives
-  s_starts : {name : Bytes} → SpellsMark (codes "s" ∷ name ∷ []) (marked starts name)
-  r_runs : {name : Bytes} → SpellsMark (codes "r" ∷ name ∷ []) (marked runs name)
-  o_puts : {name : Bytes} → SpellsMark (codes "o" ∷ name ∷ []) (marked puts name)
+  s_starts : {name : Bytes} → SpellsMark (codes "s" ∷ name ∷ []) (marked Starts name)
+  r_runs : {name : Bytes} → SpellsMark (codes "r" ∷ name ∷ []) (marked Runs name)
+  o_puts : {name : Bytes} → SpellsMark (codes "o" ∷ name ∷ []) (marked Puts name)
 
 abbrev pub instruction_limit : ℕ
 instruction_limit = 1000000000
@@ -56,13 +53,16 @@ pub data HasForm : List Bytes → Form → Type 0 where
 -- ---- sources
 
 -- the number of the source with this name
+abbrev pub source_at : List Source → Bytes → Option ℕ
+source_at sources name = position (λ s. bytes_eq s.name name) sources
+
 abbrev pub source_named : Arch → Bytes → Option ℕ
-source_named arch name = position (λ s. bytes_eq s.name name) arch.sources
+source_named arch name = source_at arch.sources name
 
 abbrev pub mark_of : Act → ℕ → Mark
-mark_of starts x = mark.Start x
-mark_of runs x = mark.Run x
-mark_of puts x = mark.Out x
+mark_of Starts x = mark.Start x
+mark_of Runs x = mark.Run x
+mark_of Puts x = mark.Out x
 
 -- ---- lines
 

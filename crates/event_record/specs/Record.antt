@@ -39,8 +39,11 @@ is_signal kind.Init = false
 is_signal (kind.Period ms) = false
 
 -- the number of the signal source with this name
+abbrev pub signal_at : List Source → Bytes → Option ℕ
+signal_at sources name = position (λ s. bytes_eq s.name name && is_signal s.kind) sources
+
 abbrev pub signal_named : Arch → Bytes → Option ℕ
-signal_named arch name = position (λ s. bytes_eq s.name name && is_signal s.kind) arch.sources
+signal_named arch name = signal_at arch.sources name
 
 -- ---- lines
 

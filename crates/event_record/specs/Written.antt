@@ -1,11 +1,11 @@
 -- Values as they are written, and what they are at a type.
-use Rattle.std.specs.Prelude.{◌≡◌, ◌≤◌, ◌<◌, ℕ, zero, suc, ◌+◌, ◌^◌, ◌-◌, max, ℤ, pos, neg_ℤ, List, [], ◌∷◌, ◌++◌, Bool, true, false, cond, ◌==◌, ◌&&◌, ◌||◌, nat_le, codes, decimal, bytes_eq, Option, Some, None, option_map, option_and_then}
-use Rattle.std.specs.Str.Parse.{digits_value}
+use Rattle.std.specs.Prelude.{◌≡◌, ◌≤◌, ℕ, zero, suc, ◌+◌, max, ℤ, pos, List, [], ◌∷◌, ◌++◌, Bool, true, false, cond, ◌&&◌, ◌||◌, bytes_eq, Option, Some, None, option_map, option_and_then}
 use Rattle.tower_types.specs.declared.scalar.Scalar.{Scalar}
 use Rattle.tower_types.specs.declared.scalar.Scalar.TheVariants as scalar
 use Rattle.tower_types.specs.Ty.{Shape, one, many, all, Shapes, no_shapes, shape}
 use Rattle.tower_types.specs.Value.{Value, word, parts, Values, no_values, value, fits_scalar}
 use Rattle.tower_syntax.specs.Words.{truth_word}
+use Rattle.tower_reader.specs.Words.{literal_in}
 use Rattle.event_record.specs.Lines.{Bytes}
 use Rattle.event_record.specs.Numbers.{is_number}
 use Rattle.event_record.specs.Tokens.{Token, left, right, atom, tokens}
@@ -64,18 +64,7 @@ pub record IsValue (text : Bytes) (w : Written) : Type 0 where
 
 -- ---- what it is at a type
 
--- the number of which the bytes are the decimal text
-abbrev pub natural_of : Bytes → Option ℕ
-natural_of text = cond (bytes_eq (decimal (digits_value 10 text)) text) (Some (digits_value 10 text)) None
-
--- a number below 0 is written with a `-`
-abbrev pub negated : ℕ → Option ℤ
-negated n = cond (nat_le 1 n) (Some (neg_ℤ (pos n))) None
-
-abbrev pub number_of : Bytes → Option ℤ
-number_of [] = None
-number_of (b ∷ bs) = cond (b == 45) (option_and_then negated (natural_of bs)) (option_map pos (natural_of (b ∷ bs)))
-
+-- the number, where it is one of the scalar
 abbrev pub fitting : Scalar → ℤ → Option Value
 fitting s n = cond (fits_scalar s n) (Some (word n)) None
 
@@ -85,7 +74,7 @@ truth_at text = cond (bytes_eq text (truth_word true)) (Some (word (pos 1))) (co
 -- `true` and `false` fit `bool` and nothing else, and a number fits no `bool`
 abbrev pub literal_at : Scalar → Bytes → Option Value
 literal_at scalar.Bool text = truth_at text
-literal_at s text = option_and_then (fitting s) (number_of text)
+literal_at s text = option_and_then (fitting s) (literal_in text)
 
 abbrev pub before : Value → Option Values → Option Values
 before v rest = option_map (value v) rest

@@ -2,9 +2,12 @@
 #![tactic(auto)]
 
 mod choices;
+mod line;
+mod number;
 mod order;
 mod record;
 mod token;
+mod value;
 
 pub use choices::{ChoiceFault, ChoiceKind, read_choices};
 pub use order::{OrderFault, OrderKind, read_order};
