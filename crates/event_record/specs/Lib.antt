@@ -6,14 +6,14 @@ pub mod Format
 pub mod Record
 pub mod Choices
 pub mod Order
-pub mod Spans
+pub mod Runs
 pub mod FewWords
 pub mod Judged
 pub mod ChoiceLine
 pub mod OrderLine
 pub mod FormSeen
-pub mod Next
+pub mod FirstToken
 pub mod Scanned
-pub mod Ahead
+pub mod Made
 pub mod RecordLine
 pub mod SaidSeen

@@ -17,12 +17,17 @@ use Rattle.event_record.specs.Format.{Format, Spells, IsFirst}
 -- ---- lines that are passed over
 
 -- the first words of the lines of a run's or a replay's text that are no marks
-abbrev pub other_lines : List Bytes
-other_lines =
-    codes "out" ∷ codes "state" ∷ codes "held" ∷ codes "waiting" ∷ codes "pending" ∷ codes "lost" ∷ codes "count" ∷ codes "waits" ∷ codes "core" ∷ codes "done" ∷ codes "stopped" ∷ codes "misfit" ∷ []
+abbrev pub state_lines : List Bytes
+state_lines = codes "out" ∷ codes "state" ∷ codes "held" ∷ codes "waiting" ∷ codes "pending" ∷ codes "lost" ∷ []
+
+abbrev pub end_lines : List Bytes
+end_lines = codes "count" ∷ codes "waits" ∷ codes "core" ∷ codes "done" ∷ codes "stopped" ∷ codes "misfit" ∷ []
+
+abbrev pub is_among : List Bytes → Bytes → Bool
+is_among firsts w = list_any (λ first. bytes_eq w first) firsts
 
 abbrev pub begins_other_line : Bytes → Bool
-begins_other_line w = list_any (λ other. bytes_eq w other) other_lines
+begins_other_line w = is_among state_lines w || is_among end_lines w
 
 -- words of a line that is passed over
 abbrev pub is_passed_over : List Bytes → Bool

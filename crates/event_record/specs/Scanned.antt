@@ -9,17 +9,17 @@ use Rattle.event_record.specs.Lines.{Bytes}
 use Rattle.event_record.specs.Tokens.{Token, left, right, atom, stray, tokens}
 use Rattle.event_record.specs.Written.{is_literal, depth_limit, literal_at}
 
--- where `open` lists are unclosed, and the value is whole or not: a value may begin here
+-- where so many lists are unclosed, and the value is whole or not: a value may begin here
 abbrev pub may_begin : ℕ → Bool → Bool
-may_begin open whole = not whole && nat_lt open depth_limit
+may_begin depth whole = not whole && nat_lt depth depth_limit
 
 -- tokens from there on make one value, with literals at its atoms, that is not too deep
 abbrev pub makes_value : ℕ → Bool → List Token → Bool
-makes_value open whole [] = open == 0 && whole
-makes_value open whole (atom text ∷ ts) = may_begin open whole && is_literal text && makes_value open (open == 0) ts
-makes_value open whole (left ∷ ts) = may_begin open whole && makes_value (open + 1) false ts
-makes_value open whole (right ∷ ts) = not (open == 0) && makes_value (open - 1) (open - 1 == 0) ts
-makes_value open whole (stray ∷ ts) = false
+makes_value depth whole [] = depth == 0 && whole
+makes_value depth whole (atom text ∷ ts) = may_begin depth whole && is_literal text && makes_value depth (depth == 0) ts
+makes_value depth whole (left ∷ ts) = may_begin depth whole && makes_value (depth + 1) false ts
+makes_value depth whole (right ∷ ts) = not (depth == 0) && makes_value (depth - 1) (depth - 1 == 0) ts
+makes_value depth whole (stray ∷ ts) = false
 
 -- ---- at a type
 

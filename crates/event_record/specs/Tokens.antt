@@ -1,7 +1,7 @@
 -- The tokens of a value: brackets, and atoms between brackets and blanks.
 use Rattle.std.specs.Prelude.{ℕ, List, [], ◌∷◌, Bool, true, false, ◌==◌, ◌&&◌, nat_le, cond}
-use Rattle.event_record.specs.declared.token.Class.{Class}
-use Rattle.event_record.specs.declared.token.Class.TheVariants as class
+use Rattle.event_record.specs.declared.run.Class.{Class}
+use Rattle.event_record.specs.declared.run.Class.TheVariants as class
 use Rattle.event_record.specs.Lines.{Bytes, is_blank}
 
 -- an atom's bytes are 21 to 7E but the brackets and `;`

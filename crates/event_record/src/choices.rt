@@ -1,7 +1,7 @@
 //! Reads scheduling choices.
-ghost use Rattle.std.specs.Prelude.{◌≡◌, ◌≤◌, ℕ, List, [], length, All, IfOk, IfErr, vec_len};
+ghost use Rattle.std.specs.Prelude.{◌≡◌, ◌≤◌, [], length, All, IfOk, IfErr, vec_len, Some, Ok};
 ghost use Rattle.event_record.specs.Lines.{lines};
-ghost use Rattle.event_record.specs.FewWords.{HasFew};
+ghost use Rattle.event_record.specs.FewWords.{listed};
 ghost use Rattle.event_record.specs.Judged.{judged_of, with_line, added_or, walk};
 ghost use Rattle.event_record.specs.ChoiceLine.{verb_of, place_of, times_of, place_and_times, choice_by, judge_choice, over_choices, IsTold};
 ghost use Rattle.event_record.specs.Choices.{SpellsChoices, IsChoiceFault, IsInRange, choice_limit};
@@ -84,7 +84,7 @@ fn times_of(word: &[u8]) -> Option<u32>
 
 /// The place and the repeat count of these words.
 fn place_and_times(words: Few<'_>) -> Option<(u32, u32)>
-    ensures { (ws : List (List ℕ)) → HasFew ws words.entry → result ≡ place_and_times ws }
+    ensures { result ≡ place_and_times (listed words.entry) }
 {
     match words {
         Few::One(place) => Some((place_of(place)?, 1)),
@@ -95,7 +95,7 @@ fn place_and_times(words: Few<'_>) -> Option<(u32, u32)>
 
 /// The choice of a first word and the words behind it.
 fn choice_by(verb: Verb, words: Few<'_>) -> Option<Choice>
-    ensures { (ws : List (List ℕ)) → HasFew ws words.entry → result ≡ choice_by (Some verb) ws }
+    ensures { result ≡ choice_by (Some verb) (listed words.entry) }
 {
     match verb {
         Verb::Go => {

@@ -6,6 +6,7 @@ mod line;
 mod number;
 mod order;
 mod record;
+mod run;
 mod token;
 mod value;
 

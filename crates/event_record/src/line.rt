@@ -1,58 +1,12 @@
 //! The lines of a text, and the words of a line.
-ghost use Rattle.std.specs.Prelude.{◌≡◌, ◌≢◌, ◌<◌, ◌≤◌, [], ◌∷◌, length, MatchOption, true};
-ghost use Rattle.event_record.specs.Lines.{is_blank, lines, words, behind_word, begins_with, say_nothing};
-ghost use Rattle.event_record.specs.Spans.{span, is_of_line, is_of_word};
+ghost use Rattle.std.specs.Prelude.{◌≡◌, ◌≢◌, ◌<◌, ◌≤◌, [], ◌∷◌, length, MatchOption};
+ghost use Rattle.event_record.specs.Lines.{lines, words, behind_word, begins_with};
 ghost use Rattle.event_record.specs.FewWords.{HasFew};
+
+use crate::run::{Sort, run_len};
 
 /// How many bytes a text may have.
 pub(crate) const BYTE_LIMIT: usize = 16_777_216;
-
-const LF: u8 = 0x0A;
-
-fn is_blank(byte: u8) -> bool
-    ensures { result ≡ is_blank byte }
-{
-    byte == 0x20 || byte == 0x09 || byte == LF || byte == 0x0D
-}
-
-/// How many bytes come before the first LF.
-fn line_len(text: &[u8]) -> usize
-    ensures len { result ≡ span is_of_line text.now }
-    ensures within { result ≤ length text.now }
-{
-    for (i, byte) in text.iter().enumerate() {
-        if *byte == LF {
-            return i;
-        }
-    }
-    text.len()
-}
-
-/// How many bytes come before the first blank.
-fn word_len(text: &[u8]) -> usize
-    ensures len { result ≡ span is_of_word text.now }
-    ensures within { result ≤ length text.now }
-{
-    for (i, byte) in text.iter().enumerate() {
-        if is_blank(*byte) {
-            return i;
-        }
-    }
-    text.len()
-}
-
-/// How many blanks a text begins with.
-fn blank_len(text: &[u8]) -> usize
-    ensures len { result ≡ span is_blank text.now }
-    ensures within { result ≤ length text.now }
-{
-    for (i, byte) in text.iter().enumerate() {
-        if !is_blank(*byte) {
-            return i;
-        }
-    }
-    text.len()
-}
 
 /// The first line of a text, and the lines behind it.
 pub(crate) fn split_line(text: &[u8]) -> (&[u8], &[u8])
@@ -60,7 +14,7 @@ pub(crate) fn split_line(text: &[u8]) -> (&[u8], &[u8])
     ensures lines { lines text.now ≡ result.0.now ∷ lines result.1.now }
     ensures shorter { length result.1.now < length text.now }
 {
-    let end = line_len(text);
+    let end = run_len(Sort::Line, text);
     let line = &text[..end];
     if end == text.len() {
         return (line, &[]);
@@ -74,12 +28,12 @@ pub(crate) fn split_word(line: &[u8]) -> Option<(&[u8], &[u8])>
     ensures words { MatchOption result (words line.now ≡ []) (λ r. words line.now ≡ r.0.now ∷ words r.1.now) }
     ensures behind { MatchOption result (Unit {0}) (λ r. r.1.now ≡ behind_word line.now) }
 {
-    let blanks = blank_len(line);
-    let text = &line[blanks..];
-    let len = word_len(text);
-    if len == 0 {
+    let blanks = run_len(Sort::Blank, line);
+    if blanks == line.len() {
         return None;
     }
+    let text = &line[blanks..];
+    let len = run_len(Sort::Word, text);
     Some((&text[..len], &text[len..]))
 }
 

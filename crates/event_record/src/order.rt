@@ -1,10 +1,10 @@
 //! Reads orders, which are lists of marks.
-ghost use Rattle.std.specs.Prelude.{◌≡◌, ◌≤◌, ◌<◌, ◌^◌, ℕ, List, [], length, map, All, IfOk, IfErr, Some};
+ghost use Rattle.std.specs.Prelude.{◌≡◌, ◌≤◌, ◌^◌, [], ◌∷◌, length, map, All, IfOk, IfErr, Ok};
 ghost use Rattle.tower_syntax.specs.View.{source_of};
-ghost use Rattle.event_record.specs.Lines.{lines};
-ghost use Rattle.event_record.specs.FewWords.{HasFew};
+ghost use Rattle.event_record.specs.Lines.{lines, words};
+ghost use Rattle.event_record.specs.FewWords.{listed};
 ghost use Rattle.event_record.specs.Judged.{judged_of, with_line, added_or, walk};
-ghost use Rattle.event_record.specs.Order.{SpellsOrder, IsOrderFault, NamesSource, begins_other_line, source_at, mark_of};
+ghost use Rattle.event_record.specs.Order.{SpellsOrder, IsOrderFault, NamesSource, is_among, state_lines, end_lines, begins_other_line, source_at, mark_of};
 ghost use Rattle.event_record.specs.OrderLine.{act_of, marked_by, bare_form, form_of, is_count, judge_mark, over_marks, IsTold};
 ghost use Rattle.event_record.specs.FormSeen.{IsForm};
 
@@ -74,29 +74,33 @@ fn act_of(word: &[u8]) -> Option<Act>
     }
 }
 
-fn begins_other_line(word: &[u8]) -> bool
-    ensures { result ≡ begins_other_line word.now }
+fn begins_state_line(word: &[u8]) -> bool
+    ensures { result ≡ is_among state_lines word.now }
 {
     matches!(
         word,
-        b"out"
-            | b"state"
-            | b"held"
-            | b"waiting"
-            | b"pending"
-            | b"lost"
-            | b"count"
-            | b"waits"
-            | b"core"
-            | b"done"
-            | b"stopped"
-            | b"misfit"
+        b"out" | b"state" | b"held" | b"waiting" | b"pending" | b"lost"
     )
+}
+
+fn begins_end_line(word: &[u8]) -> bool
+    ensures { result ≡ is_among end_lines word.now }
+{
+    matches!(
+        word,
+        b"count" | b"waits" | b"core" | b"done" | b"stopped" | b"misfit"
+    )
+}
+
+fn begins_other_line(word: &[u8]) -> bool
+    ensures { result ≡ begins_other_line word.now }
+{
+    begins_state_line(word) || begins_end_line(word)
 }
 
 /// The mark of a first word and the words behind it.
 fn bare_form<'a>(word: &[u8], words: Few<'a>) -> Option<Form<'a>>
-    ensures { (ws : List (List ℕ)) → HasFew ws words.entry → IsForm (bare_form (word.now ∷ ws)) result }
+    ensures { IsForm (bare_form (word.now ∷ listed words.entry)) result }
 {
     if word == b"a".as_slice() {
         return match words {

@@ -1,9 +1,9 @@
 //! Reads event records.
-ghost use Rattle.std.specs.Prelude.{◌≡◌, ◌≤◌, ◌<◌, ◌^◌, ℕ, List, [], ◌∷◌, length, map, replicate, IfOk, IfErr, MatchOption, Some};
+ghost use Rattle.std.specs.Prelude.{◌≡◌, ◌≤◌, ◌<◌, ◌^◌, [], ◌∷◌, length, map, replicate, IfOk, IfErr, MatchOption, Ok};
 ghost use Rattle.tower_syntax.specs.Arch.{tick};
 ghost use Rattle.tower_syntax.specs.View.{source_of, entry_of, events_of};
 ghost use Rattle.event_record.specs.Lines.{lines, words, behind_word};
-ghost use Rattle.event_record.specs.FewWords.{HasFew};
+ghost use Rattle.event_record.specs.FewWords.{listed};
 ghost use Rattle.event_record.specs.Judged.{with_line, added_or, walk, makes};
 ghost use Rattle.event_record.specs.Record.{SpellsRecord, IsRecordFault, signal_at};
 ghost use Rattle.event_record.specs.RecordLine.{tick_form, sig_form, said_of, judged_signal, judge_entry, over_entries, IsTold};
@@ -68,7 +68,7 @@ enum Said<'a> {
 
 /// The ticks of the words behind `tick`.
 fn tick_form<'a>(words: Few<'_>) -> Said<'a>
-    ensures { (ws : List (List ℕ)) → HasFew ws words.entry → said_seen result ≡ tick_form ws }
+    ensures { said_seen result ≡ tick_form (listed words.entry) }
 {
     match words {
         Few::None => Said::Ticks(1),

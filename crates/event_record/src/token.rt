@@ -1,20 +1,9 @@
 //! The tokens of a value's text.
-ghost use Rattle.std.specs.Prelude.{◌≡◌, ◌<◌, ◌≤◌, length};
-ghost use Rattle.event_record.specs.Tokens.{class_of, tokens};
-ghost use Rattle.event_record.specs.Spans.{span, is_of_atom};
-ghost use Rattle.event_record.specs.Next.{Comes, IsShorter};
+ghost use Rattle.std.specs.Prelude.{◌≡◌, length, true};
+ghost use Rattle.event_record.specs.Tokens.{tokens, is_at_atom};
+ghost use Rattle.event_record.specs.FirstToken.{Comes, IsShorter};
 
-/// What a byte of a value's text is.
-#[derive(Clone, Copy, PartialEq, Eq)]
-pub(crate) enum Class {
-    Blank,
-    Left,
-    Right,
-    /// A byte of an atom.
-    Atom,
-    /// A byte that no value may hold.
-    Stray,
-}
+use crate::run::{Class, Sort, class_of, run_len};
 
 /// The first token of a text, and what stands behind it.
 #[derive(Clone, Copy)]
@@ -27,34 +16,18 @@ pub(crate) enum Ahead<'a> {
     Stray,
 }
 
-fn class_of(byte: u8) -> Class
-    ensures { result ≡ class_of byte }
+/// The atom that a text begins with.
+fn atom(text: &[u8]) -> Ahead<'_>
+    requires { is_at_atom text.now ≡ true }
+    ensures comes { Comes (tokens text.now) result }
+    ensures shorter { IsShorter (length text.now) result }
 {
-    match byte {
-        0x20 | 0x09 | 0x0A | 0x0D => Class::Blank,
-        b'(' => Class::Left,
-        b')' => Class::Right,
-        b';' => Class::Stray,
-        0x21..=0x7E => Class::Atom,
-        _ => Class::Stray,
-    }
-}
-
-/// How many bytes of an atom a text begins with.
-fn atom_len(text: &[u8]) -> usize
-    ensures len { result ≡ span is_of_atom text.now }
-    ensures within { result ≤ length text.now }
-{
-    for (i, byte) in text.iter().enumerate() {
-        if class_of(*byte) != Class::Atom {
-            return i;
-        }
-    }
-    text.len()
+    let len = run_len(Sort::Atom, text);
+    Ahead::Atom(&text[..len], &text[len..])
 }
 
 /// The first token of a text.
-pub(crate) fn next(text: &[u8]) -> Ahead<'_>
+pub(crate) fn first_token(text: &[u8]) -> Ahead<'_>
     ensures comes { Comes (tokens text.now) result }
     ensures shorter { IsShorter (length text.now) result }
 {
@@ -65,10 +38,7 @@ pub(crate) fn next(text: &[u8]) -> Ahead<'_>
             Class::Left => return Ahead::Left(behind),
             Class::Right => return Ahead::Right(behind),
             Class::Stray => return Ahead::Stray,
-            Class::Atom => {
-                let len = atom_len(rest);
-                return Ahead::Atom(&rest[..len], &rest[len..]);
-            }
+            Class::Atom => return atom(rest),
         }
     }
     Ahead::End

@@ -7,10 +7,10 @@ ghost use Rattle.event_record.specs.Tokens.{tokens};
 ghost use Rattle.event_record.specs.Written.{depth_limit, literal_at};
 ghost use Rattle.event_record.specs.Scanned.{may_begin, makes_value, take_literal, closed, take_each, take_values, take_value, whole_value};
 ghost use Rattle.event_record.specs.Scanned.{shapes_at};
-ghost use Rattle.event_record.specs.Ahead.{IsTaken, IsMade};
+ghost use Rattle.event_record.specs.Made.{IsTaken, IsMade};
 
 use crate::number::{is_literal, literal_in};
-use crate::token::{Ahead, next};
+use crate::token::{Ahead, first_token};
 use sqlite_items::Items;
 use std::alloc::Global;
 use tower_types::{Name, NoMemory, Records, Scalar, Ty, Value, fits_scalar};
@@ -32,7 +32,7 @@ pub(crate) fn is_value(text: &[u8]) -> bool
     let mut open = 0;
     let mut whole = false;
     loop {
-        match next(rest) {
+        match first_token(rest) {
             Ahead::End => return open == 0 && whole,
             Ahead::Stray => return false,
             Ahead::Left(behind) => {
@@ -98,7 +98,7 @@ fn truth_at(text: &[u8]) -> Option<Value>
 fn take_literal(s: Scalar, text: &[u8]) -> Option<Taken<'_>>
     ensures { IsTaken (take_literal s (tokens text.now)) result }
 {
-    match next(text) {
+    match first_token(text) {
         Ahead::Atom(word, rest) => {
             let value = literal_at(s, word)?;
             Some(Taken { value, rest })
@@ -120,11 +120,11 @@ fn take_value<'a>(
 {
     match t {
         Ty::Scalar(s) => Ok(take_literal(*s, text)),
-        Ty::Array(len, element) => match next(text) {
+        Ty::Array(len, element) => match first_token(text) {
             Ahead::Left(inside) => take_array(alloc, inside, records, *len, element.get()),
             _ => Ok(None),
         },
-        Ty::Rec(r) => match next(text) {
+        Ty::Rec(r) => match first_token(text) {
             Ahead::Left(inside) => take_record(alloc, inside, records, records.fields(*r)),
             _ => Ok(None),
         },
@@ -135,7 +135,7 @@ fn take_value<'a>(
 fn closed(parts: Items<Value>, text: &[u8]) -> Option<Taken<'_>>
     ensures { IsTaken (closed (Some (all_values_of parts, tokens text.now))) result }
 {
-    match next(text) {
+    match first_token(text) {
         Ahead::Right(rest) => Some(Taken {
             value: Value::Parts(parts),
             rest,
@@ -209,7 +209,7 @@ pub(crate) fn value_of(
 {
     match take_value(alloc, text, records, t)? {
         None => Ok(None),
-        Some(Taken { value, rest }) => match next(rest) {
+        Some(Taken { value, rest }) => match first_token(rest) {
             Ahead::End => Ok(Some(value)),
             _ => Ok(None),
         },
