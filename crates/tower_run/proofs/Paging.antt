@@ -18,6 +18,10 @@ use Rattle.tower_run.specs.Paging.{HasPut, HasFailed, AfterPut, PutsOver}
 pub put_none : {S : Type 0} (w : S → Option (List ℕ)) (f : S → ℕ) (first : S) → HasPut w f first first [] []
 put_none w f first = record { sent = []; whole = refl; adds = Adds_none (w first); calm = refl }
 
+-- the same text
+after_same : {S : Type 0} (w : S → Option (List ℕ)) (f : S → ℕ) (first q : S) (held s t : Bytes) (r : Put) → s ≡ t → AfterPut w f first q held s r → AfterPut w f first q held t r
+after_same w f first q held s t r e h = let P : Bytes → Type 0 = λ u. AfterPut w f first q held u r in subst P e h
+
 module _ {S : Type 0} {w : S → Option (List ℕ)} {f : S → ℕ} where
   -- more stands on the page
   pub put_held : {first out : S} {held text : Bytes} (more : Bytes) → HasPut w f first out held text → HasPut w f first out (held ++ more) (text ++ more)
@@ -74,15 +78,12 @@ module _ {S : Type 0} {w : S → Option (List ℕ)} {f : S → ℕ} where
 
   -- ---- from any sink on
 
-  after_same : {first q : S} {held s t : Bytes} (r : Put) → s ≡ t → AfterPut w f first q held s r → AfterPut w f first q held t r
-  after_same {first} {q} {held} {s} {t} r e h = let P : Bytes → Type 0 = λ u. AfterPut w f first q held u r in subst P e h
-
   pub over_none : {a : S} {x : Bytes} → PutsOver w f a x a x [] put.Done
   over_none {a} {x} = record { behind = λ first told h. put_same (sym (append-nil told)) h }
 
   pub over_then : {a b c : S} {x y z s t : Bytes} (r : Put) → PutsOver w f a x b y s put.Done → PutsOver w f b y c z t r → PutsOver w f a x c z (s ++ t) r
   over_then {a} {b} {c} {x} {y} {z} {s} {t} r one next = record {
-    behind = λ first told h. after_same r (append_assoc told s t) (next.behind first (told ++ s) (one.behind first told h));
+    behind = λ first told h. after_same w f first c z ((told ++ s) ++ t) (told ++ (s ++ t)) r (append_assoc told s t) (next.behind first (told ++ s) (one.behind first told h));
   }
 
   pub over_stop : {a b : S} {x y s : Bytes} (t : Bytes) → PutsOver w f a x b y s put.Failed → PutsOver w f a x b y (s ++ t) put.Failed

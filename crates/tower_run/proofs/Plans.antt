@@ -228,3 +228,30 @@ module _ (policy : Policy) (p : Program) (events : Events) (limit : ℕ) where
   look_goes n k x s t e f =
       let u = instruct policy p events limit k x s s.left in
       if_false (is_seen policy p events limit x s u) u (look policy p events limit n k x u) (ap (is_seen policy p events limit x s) e ∙ f) ∙ ap (look policy p events limit n k x) e
+
+  -- what the first instruction of a `see` leads to
+  pub look_after : (n k x : ℕ) (s : Planning) → Grows (instruct policy p events limit k x s s.left) (look policy p events limit (suc n) k x s)
+  look_after n k x s =
+      let t = instruct policy p events limit k x s s.left in
+      either_grows (is_seen policy p events limit x s t) t t (look policy p events limit n k x t) (grows_not t t refl) (look_grows n k x t)
+
+  see_with_after : (k : ℕ) (s : Planning) (o : Option ℕ) → Grows (go_with policy p events limit k s o) (see_with policy p events limit k s o)
+  see_with_after k s None = grows_not s s refl
+  see_with_after k s (Some x) = look_after s.left k x s
+
+  pub see_after : (k : ℕ) (s : Planning) → Grows (go policy p events limit k s) (see policy p events limit k s)
+  see_after k s = see_with_after k s (picked policy p events limit s.run.machine k)
+
+  look_rests : (n k x : ℕ) (s : Planning) → instruct policy p events limit k x s s.left ≡ s → look policy p events limit n k x s ≡ s
+  look_rests zero k x s e = refl
+  look_rests (suc n) k x s e =
+      let t = instruct policy p events limit k x s s.left in
+      let rest : look policy p events limit n k x t ≡ t = ap (look policy p events limit n k x) e ∙ look_rests n k x s e ∙ sym e in
+      if_same (is_seen policy p events limit x s t) t (look policy p events limit n k x t) rest ∙ e
+
+  see_with_rests : (k : ℕ) (s : Planning) (o : Option ℕ) → go_with policy p events limit k s o ≡ s → see_with policy p events limit k s o ≡ s
+  see_with_rests k s None e = refl
+  see_with_rests k s (Some x) e = look_rests (suc s.left) k x s e
+
+  pub see_rests : (k : ℕ) (s : Planning) → go policy p events limit k s ≡ s → see policy p events limit k s ≡ s
+  see_rests k s e = see_with_rests k s (picked policy p events limit s.run.machine k) e

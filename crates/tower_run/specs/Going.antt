@@ -175,21 +175,37 @@ IsLeftTurn m turn.Passed = Unit {0}
 IsLeftTurn m _ = is_finished m.program (events_of m.events) m.machine ≡ false
 
 -- the named task was ready, and executed an instruction
-pub record Stepped (x : ℕ) (m n : State) : Type 0 where
-  pub stands : standing_in m x ≡ IsReady
-  pub last : n.last ≡ Some (turn_of x (does_next m x))
+pub record Stepped (x : ℕ) (old new : Going) : Type 0 where
+  pub stands : standing_in old.machine x ≡ IsReady
+  pub last : new.machine.last ≡ Some (turn_of x (does_next old.machine x))
+  pub count : new.count ≡ old.count + 1
 
-abbrev pub HasStepped : Option ℕ → State → State → Turn → Type 0
-HasStepped o m n turn.Went = (x : ℕ) × (o ≡ Some x) × Stepped x m n
-HasStepped o m n _ = Unit {0}
+abbrev pub HasStepped : Option ℕ → Going → Going → Turn → Type 0
+HasStepped o old new turn.Went = (x : ℕ) × (o ≡ Some x) × Stepped x old new
+HasStepped o old new _ = Unit {0}
 
--- at most so many turns are left
+-- so many turns are left at most
 abbrev pub most_turns : ℕ → Going → ℕ
 most_turns limit r = (limit - r.count) + (length (events_of r.machine.events).entries - r.machine.machine.place)
 
-abbrev pub IsLess : ℕ → Going → Going → Turn → Type 0
-IsLess limit old new turn.Went = most_turns limit new < most_turns limit old
-IsLess limit old new _ = Unit {0}
+-- of these the turn was one
+abbrev pub IsOneTurn : ℕ → Going → Going → Turn → Type 0
+IsOneTurn limit old new turn.Went = most_turns limit old ≡ most_turns limit new + 1
+IsOneTurn limit old new _ = Unit {0}
+
+-- an entry of the record does not stop a run
+abbrev pub NeverStops : Turn → Type 0
+NeverStops turn.Stopped = ⊥
+NeverStops _ = Unit {0}
+
+-- nor is a `see` passed over once it goes on
+abbrev pub NeverPasses : Turn → Type 0
+NeverPasses turn.Passed = ⊥
+NeverPasses _ = Unit {0}
+
+abbrev pub MayStop : Choice → Turn → Type 0
+MayStop (choice.Ev n) result = NeverStops result
+MayStop _ result = Unit {0}
 
 abbrev pub due_of : Bool → Turn
 due_of b = cond b turn.Stopped turn.Passed

@@ -1,5 +1,5 @@
 //! The choices of a run.
-ghost use Rattle.tower_run.specs.Going.{IsGoing, Carries, once, repeating, applying, choosing};
+ghost use Rattle.tower_run.specs.Going.{IsGoing, Carries, MayStop, once, repeating, applying, choosing};
 
 use crate::going::{Going, Job, Turn};
 use crate::turns::{event, finish, go, idle, see};
@@ -10,6 +10,7 @@ use tower_syntax::Choice;
 fn once<O: Sink>(job: &Job, run: &mut Going, choice: Choice, out: &mut O) -> Turn
     requires going { IsGoing O.written O.faults job.now run.old out.old }
     ensures carries { Carries O.written O.faults (once choice) job.now run.old out.old run.new out.new result }
+    ensures stops { MayStop choice result }
 {
     match choice {
         Choice::Go(k, _) => go(job, run, k, out),

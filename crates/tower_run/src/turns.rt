@@ -3,7 +3,7 @@ ghost use Rattle.std.specs.Prelude.{◌≡◌, ◌<◌, ◌≤◌, true, Some, I
 ghost use Rattle.task_machine.specs.State.{ready, holds};
 ghost use Rattle.tower_run.specs.Pieces.{AreFitLines};
 ghost use Rattle.task_code.specs.Policy.{fixed_names};
-ghost use Rattle.tower_run.specs.Going.{IsGoing, Carries, Shows, IsReadyTurn, IsLeftTurn, HasStepped, IsLess, due_of, task_left, going_with, going, going_on, seeing, looking, entering, idling, unchosen, ending};
+ghost use Rattle.tower_run.specs.Going.{IsGoing, Carries, Shows, IsReadyTurn, IsLeftTurn, HasStepped, IsOneTurn, NeverStops, NeverPasses, due_of, task_left, going_with, going, going_on, seeing, looking, entering, idling, unchosen, ending};
 
 use crate::going::{Going, Job, Turn};
 use crate::only::Only;
@@ -38,9 +38,9 @@ fn advance<P: Policy, O: Sink>(
     requires tasks { P.tasks policy.now ≡ length run.old.machine.program.tasks }
     requires monitors { IfSome (P.monitors policy.now) (λ n. n ≡ length run.old.machine.program.monitors) }
     ensures carries { Carries O.written O.faults (going_with k (P.names policy.now (ready run.old.machine) (holds run.old.machine) k)) job.now run.old out.old run.new out.new result }
-    ensures stepped { HasStepped (P.names policy.now (ready run.old.machine) (holds run.old.machine) k) run.old.machine run.new.machine result }
+    ensures stepped { HasStepped (P.names policy.now (ready run.old.machine) (holds run.old.machine) k) run.old run.new result }
     ensures ready { IsReadyTurn (ready run.old.machine) result }
-    ensures less { IsLess job.now.limit run.old run.new result }
+    ensures one { IsOneTurn job.now.limit run.old run.new result }
 {
     let waits = is_wait(job, run, k);
     match run.machine.go(policy, k) {
@@ -64,9 +64,9 @@ fn due(ready: bool) -> Turn
 pub fn go<O: Sink>(job: &Job, run: &mut Going, k: u32, out: &mut O) -> Turn
     requires going { IsGoing O.written O.faults job.now run.old out.old }
     ensures carries { Carries O.written O.faults (going k) job.now run.old out.old run.new out.new result }
-    ensures stepped { HasStepped (fixed_names job.now.rule (ready run.old.machine) (holds run.old.machine) k) run.old.machine run.new.machine result }
+    ensures stepped { HasStepped (fixed_names job.now.rule (ready run.old.machine) (holds run.old.machine) k) run.old run.new result }
     ensures ready { IsReadyTurn (ready run.old.machine) result }
-    ensures less { IsLess job.now.limit run.old run.new result }
+    ensures one { IsOneTurn job.now.limit run.old run.new result }
 {
     if run.count >= job.limit {
         return due(run.machine.is_any_ready());
@@ -79,9 +79,9 @@ fn go_on<O: Sink>(job: &Job, run: &mut Going, x: u32, k: u32, out: &mut O) -> Tu
     requires going { IsGoing O.written O.faults job.now run.old out.old }
     requires ready { slice_get (ready run.old.machine) x ≡ Some true }
     ensures carries { Carries O.written O.faults (going_on k x) job.now run.old out.old run.new out.new result }
-    ensures stepped { HasStepped (Some x) run.old.machine run.new.machine result }
+    ensures stepped { HasStepped (Some x) run.old run.new result }
     ensures ready { IsReadyTurn (ready run.old.machine) result }
-    ensures less { IsLess job.now.limit run.old run.new result }
+    ensures one { IsOneTurn job.now.limit run.old run.new result }
 {
     if run.count >= job.limit {
         return Turn::Stopped;
@@ -105,6 +105,7 @@ fn look<O: Sink>(job: &Job, run: &mut Going, x: u32, k: u32, out: &mut O) -> Tur
     requires going { IsGoing O.written O.faults job.now run.old out.old }
     requires ready { slice_get (ready run.old.machine) x ≡ Some true }
     ensures carries { Carries O.written O.faults (looking k x) job.now run.old out.old run.new out.new result }
+    ensures never_passes { NeverPasses result }
 {
     loop {
         match go_on(job, run, x, k, out) {
@@ -136,8 +137,9 @@ pub fn see<O: Sink>(job: &Job, run: &mut Going, k: u32, out: &mut O) -> Turn
 pub fn event<O: Sink>(job: &Job, run: &mut Going, out: &mut O) -> Turn
     requires going { IsGoing O.written O.faults job.now run.old out.old }
     ensures carries { Carries O.written O.faults entering job.now run.old out.old run.new out.new result }
+    ensures never_stops { NeverStops result }
     ensures left { IsLeftTurn run.old.machine result }
-    ensures less { IsLess job.now.limit run.old run.new result }
+    ensures one { IsOneTurn job.now.limit run.old run.new result }
 {
     match run.machine.event() {
         Came::Arrived => show(job, run, Some(Mark::Arrive), out),
@@ -164,7 +166,7 @@ fn go_unchosen<O: Sink>(job: &Job, run: &mut Going, out: &mut O) -> Turn
     requires going { IsGoing O.written O.faults job.now run.old out.old }
     ensures carries { Carries O.written O.faults unchosen job.now run.old out.old run.new out.new result }
     ensures left { IsLeftTurn run.old.machine result }
-    ensures less { IsLess job.now.limit run.old run.new result }
+    ensures one { IsOneTurn job.now.limit run.old run.new result }
 {
     match go(job, run, 0, out) {
         Turn::Passed => event(job, run, out),

@@ -1,25 +1,27 @@
 //! Whether the rule names a waiting task.
 ghost use Rattle.std.specs.Prelude.{◌≡◌, ◌&&◌, length};
 ghost use Rattle.task_code.specs.Policy.{priorities};
-ghost use Rattle.task_machine.specs.State.{State};
+ghost use Rattle.task_machine.specs.State.{standing_in};
+ghost use Rattle.tower_report.specs.RunText.{is_waiting};
 ghost use Rattle.tower_run.specs.Waiting.{busy_in, is_named_waiting};
 
 use crate::going::{Going, Job};
 use task_machine::{Machine, Policy, Standing};
 
-/// Notes which tasks are not idle.
-fn note_busy(machine: &Machine, busy: &mut Vec<bool>)
-    requires { length busy.old.items ≡ length machine.now.program.tasks }
+/// Notes which of so many tasks are not idle.
+fn note_busy(machine: &Machine, tasks: u32, busy: &mut Vec<bool>)
+    requires tasks { tasks ≡ length machine.now.program.tasks }
+    requires busy { length busy.old.items ≡ length machine.now.program.tasks }
     ensures { busy.new.items ≡ busy_in machine.now }
 {
-    for x in 0..busy.len() {
-        let standing = machine.standing(x as u32);
-        busy[x] = !standing.is_idle();
+    for x in 0..tasks {
+        let standing = machine.standing(x);
+        busy[x as usize] = !standing.is_idle();
     }
 }
 
 /// Does a task wait for a lock.
-fn is_waiting(machine: &Machine, task: u32) -> bool
+fn waits_for_lock(machine: &Machine, task: u32) -> bool
     requires { task < length machine.now.program.tasks }
     ensures { result ≡ is_waiting (standing_in machine.now task) }
 {
@@ -34,6 +36,7 @@ fn is_waiting(machine: &Machine, task: u32) -> bool
 /// Whether it is counted, and the rule, over all tasks that are not idle, names a waiting task for the number `k`.
 pub fn is_wait(job: &Job, run: &mut Going, k: u32) -> bool
     requires rule { job.now.rule ≡ priorities run.old.machine.program }
+    requires tasks { job.now.tasks ≡ length run.old.machine.program.tasks }
     requires busy { length run.old.busy.items ≡ length run.old.machine.program.tasks }
     ensures waits { result ≡ (job.now.counts_waits && is_named_waiting run.old.machine k) }
     ensures busy { length run.new.busy.items ≡ length run.old.busy.items }
@@ -42,9 +45,9 @@ pub fn is_wait(job: &Job, run: &mut Going, k: u32) -> bool
     if !job.counts_waits {
         return false;
     }
-    note_busy(&run.machine, &mut run.busy);
+    note_busy(&run.machine, job.tasks, &mut run.busy);
     match job.rule.pick(run.busy.as_slice(), run.machine.holds(), k) {
-        Some(x) => is_waiting(&run.machine, x),
+        Some(x) => waits_for_lock(&run.machine, x),
         None => false,
     }
 }
