@@ -1,0 +1,53 @@
+//! Whether the rule names a waiting task.
+ghost use Rattle.std.specs.Prelude.{◌≡◌, ◌&&◌, length};
+ghost use Rattle.task_code.specs.Policy.{priorities};
+ghost use Rattle.task_machine.specs.State.{standing_in};
+ghost use Rattle.tower_report.specs.RunText.{is_waiting};
+ghost use Rattle.tower_run.specs.Waiting.{busy_in, is_named_waiting};
+
+use crate::going::{Going, Job};
+use task_machine::{Machine, Policy, Standing};
+
+/// Notes which of so many tasks are not idle.
+fn note_busy(machine: &Machine, tasks: u32, busy: &mut Vec<bool>)
+    requires tasks { tasks ≡ length machine.now.program.tasks }
+    requires busy { length busy.old.items ≡ length machine.now.program.tasks }
+    ensures { busy.new.items ≡ busy_in machine.now }
+{
+    for x in 0..tasks {
+        let standing = machine.standing(x);
+        busy[x as usize] = !standing.is_idle();
+    }
+}
+
+/// Does a task wait for a lock.
+fn waits_for_lock(machine: &Machine, task: u32) -> bool
+    requires { task < length machine.now.program.tasks }
+    ensures { result ≡ is_waiting (standing_in machine.now task) }
+{
+    match machine.standing(task) {
+        Standing::Waiting(_) => true,
+        Standing::Ready => false,
+        Standing::Idle => false,
+        Standing::Stuck => false,
+    }
+}
+
+/// Whether it is counted, and the rule, over all tasks that are not idle, names a waiting task for the number `k`.
+pub fn is_wait(job: &Job, run: &mut Going, k: u32) -> bool
+    requires rule { job.now.rule ≡ priorities run.old.machine.program }
+    requires tasks { job.now.tasks ≡ length run.old.machine.program.tasks }
+    requires busy { length run.old.busy.items ≡ length run.old.machine.program.tasks }
+    ensures waits { result ≡ (job.now.counts_waits && is_named_waiting run.old.machine k) }
+    ensures busy { length run.new.busy.items ≡ length run.old.busy.items }
+    ensures same { run.new ≡ record run.old { busy = run.new.busy } }
+{
+    if !job.counts_waits {
+        return false;
+    }
+    note_busy(&run.machine, job.tasks, &mut run.busy);
+    match job.rule.pick(run.busy.as_slice(), run.machine.holds(), k) {
+        Some(x) => waits_for_lock(&run.machine, x),
+        None => false,
+    }
+}
