@@ -1,5 +1,5 @@
 -- What the code of a handler's section does: from its LOCK to its UNLOCK it does the effect.
-use Rattle.std.specs.Prelude.{◌≡◌, ℕ, ◌+◌, ◌*◌, ◌<◌, ◌≤◌, true, List, [], length, map, sum, Some, None, slice_get}
+use Rattle.std.specs.Prelude.{◌≡◌, ℕ, ◌+◌, ◌<◌, ◌≤◌, true, List, [], length, Some, None, slice_get}
 use Rattle.tower_types.specs.Value.{Value, flat}
 use Rattle.tower_syntax.specs.declared.arch.Listener.TheVariants as to
 use Rattle.tower_syntax.specs.Arch.{Arch, Emitter}
