@@ -104,7 +104,7 @@ over_of arch h = elim (search (IsOver arch h) (is_over arch h) (length (handler 
 found_over : (arch : Arch) (h e : ℕ) → IsOver arch h e → (OverOf arch h → ⊥) → ⊥
 found_over arch h e o none = elim (search (IsOver arch h) (is_over arch h) (length (handler arch h).emitters)) [
   | inl found ↦ none found
-  | inr no ↦ none_of arch h no e o
+  | inr other ↦ none_of arch h other e o
 ]
 
 bounds_decided : (arch : Arch) → ((f : Fault) × IsBoundFault arch f) ⊎ NoneOver arch
@@ -175,7 +175,7 @@ work_decided arch = elim (search (λ s. work_limit < cost arch s) dear (length a
     dear s = elim (cases_lt work_limit (cost arch s)) [ inl l ↦ inl l | inr l ↦ inr (λ m. absurd (omega (arith, l, m))) ]
 
     cheap : (s : ℕ) → (work_limit < cost arch s → ⊥) → cost arch s ≤ work_limit
-    cheap s no = elim (cases_lt work_limit (cost arch s)) [ inl l ↦ absurd (no l) | inr l ↦ l ]
+    cheap s never = elim (cases_lt work_limit (cost arch s)) [ inl l ↦ absurd (never l) | inr l ↦ l ]
 
 -- ---- a text
 
