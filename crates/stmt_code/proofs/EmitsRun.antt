@@ -24,7 +24,7 @@ use Rattle.task_code.specs.Emission.{words_put, emission}
 use Rattle.stmt_code.proofs.Needs.{need, need_steps, need_sent}
 use Rattle.stmt_code.proofs.Flats.{Fits, flat_length}
 use Rattle.stmt_code.proofs.Fitted.{expr_fits, place_fits, word_is}
-use Rattle.stmt_code.proofs.OneStep.{Code, Leads, at, stay, wider, on, push, ld, store, bput, badd}
+use Rattle.stmt_code.proofs.OneStep.{Context, Leads, at, stay, wider, on, push, ld, store, bput, badd}
 use Rattle.stmt_code.proofs.ExprsRun.{Holds, drift, Reads, restack}
 use Rattle.stmt_code.proofs.ReadsRun.{expr_leads}
 use Rattle.stmt_code.proofs.Stored.{Wrote, wrote_one, wrote_none, wrote_next}
@@ -69,7 +69,7 @@ wrote_whole ws xs ws' e w = ext_get_or (pos 0) ws' xs (w.size ∙ sym e) (λ i l
 pub has_at : (bs : List Filled) (b : ℕ) → b < length bs → slice_get bs b ≡ Some (buffer_at bs b)
 has_at bs b lt = slice_get-get_or bs b no_buffer lt
 
-record Puts (r : Code) (o : Own) (b n j a z : ℕ) (st xs : List ℤ) (bs : List Filled) : Type 0 where
+record Puts (r : Context) (o : Own) (b n j a z : ℕ) (st xs : List ℤ) (bs : List Filled) : Type 0 where
   to : List Filled
   leads : Leads r n (at (record o { buffers = bs }) a st) (at (record o { buffers = to }) z st)
   size : length to ≡ length bs
@@ -77,7 +77,7 @@ record Puts (r : Code) (o : Own) (b n j a z : ℕ) (st xs : List ℤ) (bs : List
   put : Put (buffer_at bs b) j xs (buffer_at to b)
 
 -- three instructions for each word
-module _ (r : Code) (o : Own) (from b : ℕ) (s : Buffer) (is : slice_get r.task.buffers b ≡ Some s) where
+module _ (r : Context) (o : Own) (from b : ℕ) (s : Buffer) (is : slice_get r.task.buffers b ≡ Some s) where
   puts_leads : (xs : List ℤ) (bs : List Filled) (j a : ℕ) (st : List ℤ) → b < length bs → (buffer_at bs b).count < s.bound → (buffer_at bs b).count < length (buffer_at bs b).slots
       → j + length xs ≤ s.width → j + length xs ≤ length (slot (buffer_at bs b) (buffer_at bs b).count)
       → ((i : ℕ) → i < length xs → word_at o.words (from + (j + i)) ≡ word_at xs i)
@@ -146,7 +146,7 @@ ready_buffers w hi sc env o bs k = record { fit = k.fit; shows = record { messag
 one_at : (k : ℕ) (e : Expr) → most_of_stmt k (emit k e) ≡ 1
 one_at k e = ap (λ (g : Bool). elim g [ true ↦ suc zero | false ↦ zero ]) (eq-eqb k k refl)
 
-module _ (w : Layout) (lo hi : ℕ) (laid : Laid w lo hi) (r : Code)
+module _ (w : Layout) (lo hi : ℕ) (laid : Laid w lo hi) (r : Context)
     (tables : (k : ℕ) → k < length w.scope.emitters → slice_get r.task.buffers (w.first_buffer + k) ≡ Some (record { width = words (shape_at w.scope.emitters k); bound = r.bound k }))
   where
     -- the count grows
@@ -232,7 +232,7 @@ abbrev Below : ℕ → Base → ℕ → ℕ → Type 0
 Below temps (private a) e n = a + e + n ≤ temps
 Below temps (monitor m a) e n = Unit {0}
 
-record Prepared (w : Layout) (lo hi : ℕ) (sc : Names) (env : Environment) (r : Code) (o : Own) (k a z : ℕ) (st xs : List ℤ) : Type 0 where
+record Prepared (w : Layout) (lo hi : ℕ) (sc : Names) (env : Environment) (r : Context) (o : Own) (k a z : ℕ) (st xs : List ℤ) : Type 0 where
   to : List ℤ
   from : ℕ
   place : ℕ
@@ -243,7 +243,7 @@ record Prepared (w : Layout) (lo hi : ℕ) (sc : Names) (env : Environment) (r :
   stands : Stands r.task.code place (emission from (w.first_buffer + k) (words (shape_at w.scope.emitters k)))
   ends : end place (emission from (w.first_buffer + k) (words (shape_at w.scope.emitters k))) ≡ z
 
-module _ (w : Layout) (lo hi : ℕ) (laid : Laid w lo hi) (sc : Names) (env : Environment) (r : Code) (o : Own) (rd : Ready w hi sc env o) (k : ℕ) (lt : k < length w.scope.emitters) where
+module _ (w : Layout) (lo hi : ℕ) (laid : Laid w lo hi) (sc : Names) (env : Environment) (r : Context) (o : Own) (rd : Ready w hi sc env o) (k : ℕ) (lt : k < length w.scope.emitters) where
   differs : (n : ℕ) (c : Base) (e i j : ℕ) → Below w.temps c e n → j < n → Differ (private (scratch_at w k)) (0 + 0 + i) c (e + 0 + j)
   differs n (private y) e i j below l = λ q. let h = laid.behind_temps k lt in absurd (omega (arith, q, h, below, l))
   differs n (monitor m y) e i j below l = tt
@@ -304,7 +304,7 @@ sent_weight (one s) p = omega arith
 sent_weight (many n s) p = omega arith
 sent_weight (all ss) p = omega arith
 
-module _ (w : Layout) (lo hi : ℕ) (laid : Laid w lo hi) (r : Code)
+module _ (w : Layout) (lo hi : ℕ) (laid : Laid w lo hi) (r : Context)
     (tables : (k : ℕ) → k < length w.scope.emitters → slice_get r.task.buffers (w.first_buffer + k) ≡ Some (record { width = words (shape_at w.scope.emitters k); bound = r.bound k }))
   where
     abbrev Emitted : ℕ → Expr → Names → Execution → Own → ℕ → List ℤ → Type 0
