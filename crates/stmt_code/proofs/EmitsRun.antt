@@ -1,7 +1,7 @@
 -- Sending a message into a buffer.
 use Rattle.std.proofs.Common.{◌≡◌, ◌≢◌, ℕ, zero, suc, ◌+◌, ◌-◌, ◌*◌, ◌<◌, ◌≤◌, ℤ, pos, List, [], ◌∷◌, ◌++◌, length, refl, ap, sym, ◌∙◌, subst, arith, Bool, true, false, Some, slice_get, slice_set, slice_index_or, ◌⊎◌, inl, inr, get_or-set_same, get_or-set_other, length-set, length-append}
 use Rattle.std.proofs.lemmas.Bool.{cases_eq, cases_lt, eq-eqb}
-use Rattle.std.proofs.lemmas.List.{get_or-append-add, ext_get_or}
+use Rattle.std.proofs.lemmas.List.{get_or-append-add}
 use Rattle.std.proofs.lemmas.Option.{slice_get-get_or, get_or_from_slice_get, slice_get_within}
 use Rattle.task_code.specs.Formed.{IsFormedBuffer}
 use Rattle.task_code.specs.Emitting.{with_message}
@@ -16,10 +16,9 @@ use Rattle.tower_syntax.specs.Tree.{Expr, lit, read, un, bin, choose, cast, Plac
 use Rattle.tower_syntax.specs.Weights.{root_shape, shape_at, executed, expr_weight, place_weight, steps_weight, moved_weight, stmt_weight, most_of_stmt}
 use Rattle.tower_syntax.specs.Typed.{Names, HasScalar, HasShape, IsTypedStmt}
 use Rattle.tower_meaning.specs.Body.{Environment, Execution, expr_value, place_value, emitted}
-use Rattle.task_code.specs.declared.program.Buffer.{Buffer}
-use Rattle.task_code.specs.declared.program.Instr.TheVariants.{St, Badd}
+use Rattle.task_code.specs.declared.program.Instr.TheVariants.{St}
 use Rattle.task_code.specs.Own.{Own, Filled}
-use Rattle.task_code.specs.Does.{word_at, slot, with_word, with_count}
+use Rattle.task_code.specs.Does.{word_at, slot}
 use Rattle.task_code.specs.Piece.{Piece, ins, ◌▸◌, end, Stands}
 use Rattle.stmt_code.specs.Layout.{Layout, scratch_at, root_base, fixed_offset, moves, Base, private, monitor, plus}
 use Rattle.stmt_code.specs.Body.{kept, index_code, words_copied, message_of, moved_to, place_emitted, expr_code, stmt_code}
@@ -27,10 +26,10 @@ use Rattle.task_code.specs.Emission.{emission}
 use Rattle.stmt_code.proofs.Needs.{need, need_steps, need_sent}
 use Rattle.stmt_code.proofs.Flats.{Fits, flat_length}
 use Rattle.stmt_code.proofs.Fitted.{expr_fits, place_fits, word_is}
-use Rattle.stmt_code.proofs.OneStep.{Context, Leads, at, stay, wider, on, push, ld, store, bput, badd}
-use Rattle.stmt_code.proofs.ExprsRun.{Holds, drift, Reads, restack}
+use Rattle.stmt_code.proofs.OneStep.{Context, Leads, at, stay, wider, on, store}
+use Rattle.stmt_code.proofs.ExprsRun.{Holds, drift, Reads}
 use Rattle.stmt_code.proofs.ReadsRun.{expr_leads}
-use Rattle.stmt_code.proofs.Stored.{Wrote, wrote_one, wrote_none, wrote_next}
+use Rattle.stmt_code.proofs.Stored.{Wrote, wrote_one}
 use Rattle.stmt_code.proofs.Ready.{Laid, Ready, Kept, kept_same, kept_on, known, temp_ready, wrote_kept}
 use Rattle.stmt_code.proofs.PlacesRun.{place_leads, place_within, still}
 use Rattle.stmt_code.proofs.MovesRun.{Index, Differ, Moves, source, moved_leads}
