@@ -66,7 +66,7 @@ pub record DoesEffect (arch : Arch) (p : Program) (t : Task) (h : ℕ) (f : Fram
   pub formed : IsFormed t own
   pub changed : ChangesOnly (IsOwnWord arch h f) (IsOwnBuffer arch h f) u own
 
--- The code of each section does so, whatever message and value it is handed that fit, and takes less than its weight,
+-- The code of each section does so, whatever message and value it is handed that fit, and takes at most its weight,
 -- counted with its LOCK, its UNLOCK and the RET behind it.
 abbrev pub SectionsDoEffects : Type 0
 SectionsDoEffects =
