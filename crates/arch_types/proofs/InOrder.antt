@@ -148,7 +148,7 @@ items_named os hs before other o h (monitor at i ps ∷ items) e l f m =
     let own : map (name_in os hs) (part_listeners h ps) ≡ each handler_name ps = parts_named os hs other (handler_names items) h ps f m in
     let counts : h + handlers_in ps ≡ length (other ++ each handler_name ps) = omega (arith, m, parts_count ps, length-append other (each handler_name ps)) in
     let others : map (name_in os hs) (listeners o (h + handlers_in ps) items) ≡ each listener_names items =
-        items_named os hs before (other ++ each handler_name ps) o (h + handlers_in ps) items e l (f ∙ sym (append_assoc other (each handler_name ps) (handler_names items))) counts in
+    items_named os hs before (other ++ each handler_name ps) o (h + handlers_in ps) items e l (f ∙ sym (append_assoc other (each handler_name ps) (handler_names items))) counts in
     map-append (name_in os hs) (part_listeners h ps) (listeners o (h + handlers_in ps) items) ∙ (λ k. own k ++ others k)
 
 -- the names of the handlers of a checked tree
