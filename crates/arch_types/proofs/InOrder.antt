@@ -1,5 +1,5 @@
 -- A checked tree has its handlers by monitor, and its listeners in text order.
-use Rattle.std.proofs.Common.{◌≡◌, ◌∙◌, ℕ, zero, suc, ◌+◌, ◌<◌, ◌≤◌, List, [], ◌∷◌, ◌++◌, map, length, All, refl, sym, ap, subst, arith, append_assoc, append-nil, slice_index_or, length-append}
+use Rattle.std.proofs.Common.{◌≡◌, ◌∙◌, ℕ, zero, suc, ◌+◌, ◌≤◌, List, [], ◌∷◌, ◌++◌, map, length, refl, sym, ap, subst, arith, append_assoc, slice_index_or, length-append}
 use Rattle.std.specs.List.Sorted.{IsNonDecreasingBy}
 use Rattle.std.proofs.lemmas.List.{get_or_at, map-append}
 use Rattle.tower_types.specs.Ty.{Name}
@@ -8,7 +8,7 @@ use Rattle.tower_syntax.specs.declared.arch.Listener.TheVariants as to
 use Rattle.tower_syntax.specs.RawTree.{Link, RawPart, state, handler, RawItem, fields, init, period, signal, channel, output, monitor, Raw}
 use Rattle.tower_syntax.specs.Arch.{Arch, Handler}
 use Rattle.tower_syntax.specs.Graph.{no_handler, no_output}
-use Rattle.arch_types.specs.Outline.{each, output_of, part_listeners, handlers_in, listeners, outline, with_handlers, Written, written_of, handlers_from, handlers_of}
+use Rattle.arch_types.specs.Outline.{each, output_of, part_listeners, handlers_in, listeners, outline, Written, written_of, handlers_from, handlers_of}
 use Rattle.arch_types.specs.File.{AreHandlers, IsChecked}
 use Rattle.arch_types.specs.Listed.{handler_name, listener_names, name_of, IsInFileOrder}
 use Rattle.arch_types.proofs.Lists.{AllOf, all_both, all_more, each_element}
