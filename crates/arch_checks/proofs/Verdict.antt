@@ -113,18 +113,21 @@ bounds_decided arch = elim (search (OverOf arch) (over_of arch) (length arch.han
   | inl found ↦
       let h : ℕ = found.at in
       let e : ℕ = found.here.at in
-      inl (bound_fault arch h e, record {
-        over = record { handler = h; emitter = e; most = saturated (most (handler arch h) e) };
-        first = record {
-          over = found.here.here;
-          count = refl;
-          first = λ k d before o. elim before [
-            | inl earlier ↦ found_over arch k d o (found.before k earlier)
-            | inr same ↦ found.here.before d same.1 (subst (λ x. IsOver arch x d) same.0 o)
-          ];
-        };
-        told = refl;
-      })
+      inl (
+        bound_fault arch h e,
+        record {
+          over = record { handler = h; emitter = e; most = saturated (most (handler arch h) e) };
+          first = record {
+            over = found.here.here;
+            count = refl;
+            first = λ k d before o. elim before [
+              | inl earlier ↦ found_over arch k d o (found.before k earlier)
+              | inr same ↦ found.here.before d same.1 (subst (λ x. IsOver arch x d) same.0 o)
+            ];
+          };
+          told = refl;
+        },
+      )
 ]
 
 cycle_decided : (arch : Arch) → ((f : Fault) × IsCycleFault arch f) ⊎ (shown arch ≡ None)

@@ -1,5 +1,5 @@
 -- The delivery of a handler visits all that follows from what it emitted.
-use Rattle.std.proofs.Common.{◌≡◌, ◌∙◌, ◌≢◌, ℕ, zero, suc, ◌+◌, ◌<◌, ◌≤◌, ◌⊎◌, inl, inr, true, List, [], ◌∷◌, length, map, take, sum, Some, None, refl, sym, ap, subst, arith, slice_get, slice_index_or}
+use Rattle.std.proofs.Common.{◌≡◌, ◌∙◌, ◌≢◌, ℕ, suc, ◌+◌, ◌<◌, ◌≤◌, ◌⊎◌, inl, inr, true, List, [], ◌∷◌, length, map, take, sum, Some, None, refl, sym, ap, subst, arith, slice_get, slice_index_or}
 use Rattle.std.proofs.lemmas.Option.{slice_get_within}
 use Rattle.tower_types.specs.Value.{Value, flat}
 use Rattle.tower_syntax.specs.declared.arch.On.TheVariants as on
@@ -24,8 +24,8 @@ use Rattle.task_alone.proofs.Visits.{weaker}
 use Rattle.channel_graph.proofs.Members.{In, filter_has}
 use Rattle.channel_graph.proofs.Linked.{Link, of_link}
 use Rattle.emit_code.specs.Delivery.{Entry, delivery_code}
-use Rattle.emit_code.specs.Entries.{Behind, next, later, NoneComesBack, frame_in, place_in, InFrame, InFrames, InOwn, Touched, InBuffers, OwnBuffers, TouchedBuffers, HasParts, buffer_for, IsFramed, Returned, Carries, Going}
-use Rattle.emit_code.specs.Delivering.{OfEntry, BeginsDelivery, delivery_end, DeliveryVisits}
+use Rattle.emit_code.specs.Entries.{Behind, next, later, NoneComesBack, frame_in, InFrames, Touched, InBuffers, TouchedBuffers, HasParts, buffer_for, IsFramed, Returned, Carries, Going}
+use Rattle.emit_code.specs.Delivering.{OfEntry, delivery_end, DeliveryVisits}
 use Rattle.emit_code.proofs.Going.{Ready}
 use Rattle.emit_code.proofs.Emitted.{Feeds, AreFed, delivers}
 use Rattle.emit_code.proofs.Listed.{same_on_channel, exists, all_in, get_in, first_held, not_held}

@@ -9,7 +9,6 @@ use Rattle.tower_syntax.specs.Graph.{subs}
 use Rattle.tower_syntax.specs.Weights.{emitter_words, emitter_weight}
 use Rattle.tower_meaning.specs.System.{Item, follow_from}
 use Rattle.tower_meaning.specs.Fits.{fits_item}
-use Rattle.task_code.specs.declared.program.Buffer.{Buffer}
 use Rattle.task_code.specs.declared.program.Task.{Task}
 use Rattle.task_code.specs.Program.{Program}
 use Rattle.task_code.specs.Own.{Filled, Own}

@@ -1,12 +1,12 @@
 -- What the code of a delivery does.
-use Rattle.std.specs.Prelude.{◌≡◌, ◌⊎◌, ℕ, ◌+◌, ◌<◌, ◌≤◌, ◌*◌, true, List, [], ◌∷◌, length, map, sum, Some, None, All, slice_get, slice_index_or}
+use Rattle.std.specs.Prelude.{◌≡◌, ◌⊎◌, ℕ, ◌+◌, ◌<◌, ◌≤◌, ◌*◌, true, List, [], length, map, sum, Some, None, All, slice_get, slice_index_or}
 use Rattle.tower_types.specs.Value.{Value}
 use Rattle.tower_syntax.specs.declared.arch.On.TheVariants as on
 use Rattle.tower_syntax.specs.Arch.{Arch, Emitter}
 use Rattle.tower_syntax.specs.Graph.{handler, subs, leads, Reaches}
 use Rattle.tower_syntax.specs.WellNumbered.{AreListeners}
 use Rattle.tower_syntax.specs.Weights.{emitter_words, emitter_weight}
-use Rattle.tower_meaning.specs.System.{Item, follow_from}
+use Rattle.tower_meaning.specs.System.{follow_from}
 use Rattle.tower_meaning.specs.Fits.{fits_item}
 use Rattle.task_code.specs.declared.program.Task.{Task}
 use Rattle.task_code.specs.declared.frame.Frame.{Frame}
@@ -21,7 +21,7 @@ use Rattle.task_code.specs.Piece.{end, listed, Stands}
 use Rattle.task_alone.specs.Visits.{Visits}
 use Rattle.task_alone.specs.SettingOf.{setting_of, numbers_from}
 use Rattle.emit_code.specs.Delivery.{Entry, delivery_code}
-use Rattle.emit_code.specs.Entries.{frame_in, NoneComesBack, InFrame, InFrames, InBuffers, OwnBuffers, Touched, TouchedBuffers, IsFramed, Carries, Going}
+use Rattle.emit_code.specs.Entries.{frame_in, NoneComesBack, InFrame, InFrames, InBuffers, Touched, TouchedBuffers, IsFramed, Carries, Going}
 
 -- words and buffers of k, and of the handlers behind it
 abbrev pub OfEntry : Arch → ℕ → List Entry → ℕ → ℕ → Type 0

@@ -1,5 +1,5 @@
 -- What the code of a handler's section does: from its LOCK to its UNLOCK it does the effect.
-use Rattle.std.specs.Prelude.{◌≡◌, ℕ, ◌+◌, ◌*◌, ◌<◌, ◌≤◌, true, List, [], length, map, sum, Some, None, slice_get}
+use Rattle.std.specs.Prelude.{◌≡◌, ℕ, ◌+◌, ◌<◌, ◌≤◌, true, List, [], length, Some, None, slice_get}
 use Rattle.tower_types.specs.Value.{Value, flat}
 use Rattle.tower_syntax.specs.declared.arch.Listener.TheVariants as to
 use Rattle.tower_syntax.specs.Arch.{Arch, Emitter}
@@ -66,7 +66,7 @@ pub record DoesEffect (arch : Arch) (p : Program) (t : Task) (h : ℕ) (f : Fram
   pub formed : IsFormed t own
   pub changed : ChangesOnly (IsOwnWord arch h f) (IsOwnBuffer arch h f) u own
 
--- The code of each section does so, whatever message and value it is handed that fit, and takes less than its weight,
+-- The code of each section does so, whatever message and value it is handed that fit, and takes at most its weight,
 -- counted with its LOCK, its UNLOCK and the RET behind it.
 abbrev pub SectionsDoEffects : Type 0
 SectionsDoEffects =

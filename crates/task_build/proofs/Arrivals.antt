@@ -1,13 +1,13 @@
 -- An event record that fits an accepted system fits its program.
-use Rattle.std.proofs.Common.{◌≡◌, ◌∙◌, ℕ, zero, suc, ◌+◌, ◌≤◌, Bool, true, false, is_some, List, [], ◌∷◌, length, map, All, Option, Some, None, refl, sym, ap, subst, arith, slice_get}
+use Rattle.std.proofs.Common.{◌≡◌, ◌∙◌, ℕ, zero, suc, ◌+◌, ◌≤◌, false, is_some, List, [], ◌∷◌, length, map, All, Option, Some, None, refl, sym, ap, subst, arith, slice_get}
 use Rattle.std.proofs.lemmas.List.{length-map}
 use Rattle.std.proofs.lemmas.List.Elements.{All-cons, All-nil, All-head, All-tail}
 use Rattle.std.proofs.lemmas.Bool.{false≢true}
 use Rattle.std.proofs.lemmas.Option.{same_Some, none-some}
 use Rattle.tower_types.specs.declared.scalar.Scalar.TheVariants.{I64}
-use Rattle.tower_types.specs.Ty.{scalar, Shape, one, many, all, Shapes, no_shapes, shape, shape_in, shape_of, table_of, words, depth, depth_of_all}
-use Rattle.tower_types.specs.Value.{Value, word, parts, Values, no_values, value, fits, fits_all, fits_each, value_depth, depth_of_values}
-use Rattle.tower_types.proofs.Flat.{both, length-flat}
+use Rattle.tower_types.specs.Ty.{scalar, shape_in, shape_of, table_of, words, depth}
+use Rattle.tower_types.specs.Value.{Value, value_depth}
+use Rattle.tower_types.proofs.Flat.{length-flat}
 use Rattle.tower_syntax.specs.declared.arch.SourceKind.{SourceKind}
 use Rattle.tower_syntax.specs.declared.arch.SourceKind.TheVariants as kind
 use Rattle.tower_syntax.specs.declared.arch.On.TheVariants as on

@@ -1,5 +1,5 @@
 -- Each entry of a task of an accepted system carries out its item.
-use Rattle.std.proofs.Common.{◌≡◌, ℕ, ◌+◌, ◌<◌, ◌≤◌, List, length, Some, refl, arith, slice_get}
+use Rattle.std.proofs.Common.{ℕ, ◌<◌, ◌≤◌, List, length, refl, arith}
 use Rattle.std.proofs.lemmas.Option.{slice_get_within}
 use Rattle.tower_syntax.specs.Arch.{Arch, Source}
 use Rattle.tower_syntax.specs.Graph.{handler, Reaches}
@@ -11,7 +11,6 @@ use Rattle.channel_graph.specs.Chain.{LeadsAlong}
 use Rattle.channel_graph.proofs.Recursed.{deliver_recurs}
 use Rattle.arch_checks.specs.declared.fault.What.TheVariants as what
 use Rattle.arch_checks.specs.Laws.{IsSafe}
-use Rattle.arch_checks.specs.Offences.{IsAccepted}
 use Rattle.arch_checks.proofs.Accepted.{safe}
 use Rattle.arch_checks.proofs.Facts.{walks_short}
 use Rattle.task_build.specs.CodeOf.{task_of, code_of}

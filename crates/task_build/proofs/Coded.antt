@@ -7,12 +7,9 @@ use Rattle.tower_syntax.specs.declared.arch.Listener.{Listener}
 use Rattle.tower_syntax.specs.declared.arch.Listener.TheVariants as to
 use Rattle.tower_syntax.specs.Arch.{Arch, Source}
 use Rattle.tower_syntax.specs.Graph.{handler, no_output, hears, subs, Reaches, begins, goes, reached_by}
-use Rattle.tower_syntax.specs.WellNumbered.{AreListeners, IsWellNumbered}
-use Rattle.tower_syntax.specs.Typed.{IsTyped}
+use Rattle.tower_syntax.specs.WellNumbered.{AreListeners}
 use Rattle.tower_meaning.proofs.KeepsTypes.{keeps_types}
-use Rattle.std.proofs.lemmas.Bool.{cases_lt}
 use Rattle.tower_syntax.specs.Weights.{message_words, channel_message, handler_memory, memory}
-use Rattle.tower_meaning.specs.Fits.{KeepsTypes}
 use Rattle.task_code.specs.declared.program.Buffer.{Buffer}
 use Rattle.task_code.specs.declared.program.Task.{Task}
 use Rattle.task_code.specs.Piece.{Piece, ◌▸◌, end, Stands}
@@ -21,9 +18,7 @@ use Rattle.task_build.specs.CodeOf.{frames_from, end_of, buffers_of, all_buffers
 use Rattle.emit_code.specs.Delivery.{Entry}
 use Rattle.lock_reduction.specs.Reduce.{Alone}
 use Rattle.task_alone.specs.SettingOf.{first_buffer}
-use Rattle.channel_graph.specs.Circuit.{IsAcyclic}
-use Rattle.channel_graph.specs.Chain.{IsWalk, IsChain}
-use Rattle.channel_graph.proofs.Walked.{walk_is_short}
+use Rattle.channel_graph.specs.Chain.{IsWalk}
 use Rattle.channel_graph.proofs.Members.{In, filter_has, contains_from_In, In-from_contains}
 use Rattle.channel_graph.proofs.Closed.{listed_is_reached, reached_is_listed}
 use Rattle.arch_checks.specs.declared.fault.What.TheVariants as what

@@ -4,7 +4,7 @@ use Rattle.std.proofs.lemmas.List.{append-nil}
 use Rattle.tower_types.specs.Value.{Value}
 use Rattle.tower_syntax.specs.declared.arch.Listener.TheVariants as to
 use Rattle.tower_syntax.specs.Arch.{Arch}
-use Rattle.tower_syntax.specs.Graph.{handler, leads, Reaches, reached_by}
+use Rattle.tower_syntax.specs.Graph.{handler, leads, Reaches}
 use Rattle.tower_syntax.specs.WellNumbered.{AreListeners}
 use Rattle.tower_syntax.specs.Weights.{emitter_weight, section, handler_memory, memory}
 use Rattle.tower_meaning.specs.System.{Item}
@@ -32,7 +32,7 @@ use Rattle.stmt_code.specs.Section.{section_code}
 use Rattle.stmt_code.specs.Effects.{HasFrame, BeforeLock, DoesEffect}
 use Rattle.stmt_code.proofs.Sections.{do_effects}
 use Rattle.emit_code.specs.Delivery.{Entry, delivery_code}
-use Rattle.emit_code.specs.Entries.{NoneComesBack, Behind, frame_in, place_in, InFrames, Touched, InBuffers, TouchedBuffers, Entered, Returned, Carries, Going}
+use Rattle.emit_code.specs.Entries.{NoneComesBack, frame_in, place_in, InFrames, Touched, InBuffers, TouchedBuffers, Entered, Returned, Carries, Going}
 use Rattle.emit_code.specs.Delivering.{OfEntry}
 use Rattle.emit_code.proofs.Delivered.{wider, as_called, buffers_called, begins, delivery_visits}
 use Rattle.emit_code.proofs.Listed.{all_in}

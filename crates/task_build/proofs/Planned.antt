@@ -8,7 +8,6 @@ use Rattle.tower_syntax.specs.Graph.{handler, subs, Reaches, reached_by}
 use Rattle.tower_syntax.specs.Weights.{section, message_words}
 use Rattle.tower_meaning.specs.Fits.{fits_item}
 use Rattle.task_code.specs.declared.program.Task.{Task}
-use Rattle.task_code.specs.declared.frame.Frame.{Frame}
 use Rattle.task_code.specs.Program.{Program}
 use Rattle.task_code.specs.Own.{Own}
 use Rattle.task_code.specs.Formed.{HoldWords, IsFormed}
