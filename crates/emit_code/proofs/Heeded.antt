@@ -28,7 +28,7 @@ emitter_is ems items k x seen within read = ap (λ es. get_or es k (emitter_of x
 pub emitters_count : (ems : List Emitter) (items : List EmitterValue) → ems ≡ map emitter_of items → length ems ≡ length items
 emitters_count ems items seen = ap length seen ∙ length-map items emitter_of
 
-get_or_default : {X : Type 0} (xs : List X) (k : ℕ) (a b : X) → k < length xs → get_or xs k a ≡ get_or xs k b
+pub get_or_default : {X : Type 0} (xs : List X) (k : ℕ) (a b : X) → k < length xs → get_or xs k a ≡ get_or xs k b
 get_or_default [] k a b h = absurd (omega (arith, h))
 get_or_default (x ∷ xs) zero a b h = refl
 get_or_default (x ∷ xs) (suc k) a b h = get_or_default xs k a b (omega (arith, h))

@@ -1,6 +1,7 @@
 -- Listeners that join those of their channel.
-use Rattle.std.proofs.Common.{◌≡◌, ◌≢◌, ◌∙◌, ℕ, ◌+◌, ◌<◌, inl, inr, List, [], ◌∷◌, ◌++◌, length, filter, cond, set, get_or, Bool, true, false, refl, sym, ap, subst, arith, append-nil, get_or-set_same, get_or-set_other, length-set}
+use Rattle.std.proofs.Common.{◌≡◌, ◌≢◌, ◌∙◌, ℕ, ◌+◌, ◌<◌, ◌≤◌, inl, inr, List, [], ◌∷◌, ◌++◌, length, take, filter, cond, set, get_or, Bool, true, false, refl, sym, ap, subst, arith, append-nil, get_or-set_same, get_or-set_other, length-set}
 use Rattle.std.proofs.lemmas.Bool.{cases_eq, eq-eqb, ne_eqb}
+use Rattle.std.proofs.lemmas.List.{take_more, take_all}
 use Rattle.std.proofs.lemmas.List.Elements.{filter-append}
 use Rattle.tower_syntax.specs.declared.arch.On.{On}
 use Rattle.tower_syntax.specs.declared.arch.On.TheVariants as on
@@ -48,3 +49,10 @@ heard_at arch ls l (on.Channel a) old new kept hears_is grown = record {
 -- one listener more
 pub heard_more : (arch : Arch) (ls : List Listener) (l : Listener) (o : On) (old new : List (List Listener)) → AreHeardAmong arch ls old → o ≡ attached arch l → HearsMore old o l new → AreHeardAmong arch (ls ++ l ∷ []) new
 heard_more arch ls l o old new kept at grown = heard_at arch ls l o old new kept (λ c. hears-attached arch c l ∙ ap (λ q. same_on q c) (sym at)) grown
+
+pub heard_next : (arch : Arch) (items : List Listener) (i : ℕ) (d : Listener) (o : On) (old new : List (List Listener)) → i < length items → AreHeardAmong arch (take i items) old → o ≡ attached arch (get_or items i d) → HearsMore old o (get_or items i d) new → AreHeardAmong arch (take (i + 1) items) new
+heard_next arch items i d o old new within kept at grown =
+    subst (λ ls. AreHeardAmong arch ls new) (sym (take_more items i d within)) (heard_more arch (take i items) (get_or items i d) o old new kept at grown)
+
+pub all_heard : (arch : Arch) (items ls : List Listener) (i : ℕ) (heard : List (List Listener)) → length items ≤ i → items ≡ ls → AreHeardAmong arch (take i items) heard → AreHeardAmong arch ls heard
+all_heard arch items ls i heard past same kept = subst (λ xs. AreHeardAmong arch xs heard) (take_all i items past ∙ same) kept

@@ -1,9 +1,8 @@
 //! The code of one message that goes into a buffer, and of the delivery of all that a handler emitted.
 
 ghost use Rattle.std.specs.Prelude.{◌≡◌, ◌<◌, ◌++◌, length, OnOk, OnErr};
-ghost use Rattle.tower_syntax.specs.Graph.{handler};
 ghost use Rattle.task_code.specs.Piece.{listed};
-ghost use Rattle.emit_code.specs.Emitted.{emission_of};
+ghost use Rattle.emit_code.specs.Emitted.{HasEmitter, emission_of};
 ghost use Rattle.emit_code.specs.Framed.{HasEntry, delivery_of};
 ghost use Rattle.emit_code.specs.Heard.{AreHeard};
 
@@ -25,7 +24,7 @@ pub fn place_emit(
     code: &mut Code,
 ) -> Result<(), NoMemory>
     requires handler { handler < length arch.now.handlers }
-    requires emitter { emitter < length (handler arch.now handler).emitters }
+    requires emitter { HasEmitter arch.now handler emitter }
     ensures ok { OnOk result (code.new ≡ code.old ++ listed (emission_of arch.now handler emitter frame.now)) }
     ensures err { OnErr result (code.new ≡ code.old) }
 {

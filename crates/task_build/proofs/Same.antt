@@ -1,22 +1,32 @@
 -- The code of a task depends on its entries only by what is found of each handler.
-use Rattle.std.proofs.Common.{◌≡◌, ◌≢◌, ◌∙◌, ℕ, zero, suc, ◌+◌, ◌<◌, List, [], ◌∷◌, ◌++◌, length, map, pos, get_or, slice_index_or, refl, ap, sym, subst, arith}
+use Rattle.std.proofs.Common.{◌≡◌, ◌≢◌, ◌∙◌, ℕ, zero, suc, ◌+◌, ◌<◌, List, [], ◌∷◌, ◌++◌, length, map, take, pos, get_or, slice_index_or, refl, ap, sym, subst, arith}
 use Rattle.std.specs.List.Sorted.{IsStrictlyIncreasing}
 use Rattle.tower_types.specs.declared.scalar.Scalar.TheVariants.{U64}
 use Rattle.tower_types.specs.declared.scalar.BinOp.TheVariants.{Add, Less}
 use Rattle.tower_syntax.specs.declared.arch.On.TheVariants as on
 use Rattle.tower_syntax.specs.declared.arch.Listener.{Listener}
 use Rattle.tower_syntax.specs.declared.arch.Listener.TheVariants as to
-use Rattle.tower_syntax.specs.Arch.{Arch, Emitter}
-use Rattle.tower_syntax.specs.Graph.{handler, subs}
+use Rattle.std.proofs.lemmas.List.{length-map, length-take, take_more, get_or-map}
+use Rattle.tower_syntax.specs.Arch.{Arch, Source, Emitter}
+use Rattle.tower_syntax.specs.Graph.{handler, subs, reached_by, numbers_before}
 use Rattle.tower_syntax.specs.Weights.{emitter_words, message_words}
 use Rattle.task_code.specs.declared.program.Instr.TheVariants.{Push, Ld, St, Bin, Jmp, Jz, Call, Ret, Take, Bcnt}
+use Rattle.task_code.specs.declared.program.Instr.{Instr}
+use Rattle.task_code.specs.declared.program.Task.{Task}
 use Rattle.task_code.specs.declared.frame.Frame.{Frame}
+use Rattle.task_code.specs.declared.frame.Frames.{Frames}
 use Rattle.task_code.specs.Piece.{Piece, nil, ins, ◌▸◌, end, listed, joined}
 use Rattle.stmt_code.specs.Section.{section_code}
 use Rattle.emit_code.specs.Delivery.{Entry, entry_of, words_got, item_code, emitter_code, delivery_code}
+use Rattle.emit_code.specs.Framed.{entries_in}
 use Rattle.emit_code.proofs.Looked.{entry_here, entry_there}
-use Rattle.task_build.specs.CodeOf.{handler_code, passed, call_code, head_code, taken_at, entries_from, handlers_code, unplaced}
-use Rattle.task_build.specs.Tables.{entries_at, placed_from, head_of, placed_behind, code_behind}
+use Rattle.task_build.specs.CodeOf.{handler_code, passed, call_code, head_code, taken_at, entries_from, handlers_code, unplaced, frames_from, task_of, tasks_from}
+use Rattle.task_build.specs.Tables.{entries_at, Agrees, placed_from, head_of, placed_behind, code_behind}
+use Rattle.channel_graph.proofs.Members.{length-numbers}
+use Rattle.thread_split.specs.declared.plan.TaskPlan.{TaskPlan}
+use Rattle.thread_split.specs.Plans.{plan_of, plans_of}
+use Rattle.thread_split.proofs.Planned.{number_at}
+use Rattle.task_build.proofs.Tabled.{frames_length}
 use Rattle.task_build.proofs.Placed.{Alike, placed_alike, handler_end, head_end}
 
 map_same : (f g : Listener → Piece) → ((l : Listener) → f l ≡ g l) → (ls : List Listener) → map f ls ≡ map g ls
@@ -204,3 +214,70 @@ module _ (arch : Arch) (s : ℕ) (hs : List ℕ) (fs : List Frame) (each : lengt
           ∙ sym (entries_alike arch known entries alike hs fs (end 0 (head_of arch entries s)))
           ∙ ap (λ a. entries_from arch known a hs fs) from in
       λ t. head t ▸ handlers_code arch entries (there t)
+
+-- ---- the code of a task
+
+same_code : (arch : Arch) (s : ℕ) (source : Source) → IsStrictlyIncreasing (reached_by arch s) → (zeros places : List ℕ) (bare full : Frames) (code : List Instr) → length zeros ≡ length (reached_by arch s) → ((k : ℕ) → k < length zeros → get_or zeros k 0 ≡ 0)
+    → Agrees (entries_at (reached_by arch s) (frames_from arch 0 0 (reached_by arch s)) zeros) bare
+    → places ≡ map (λ e. e.place) (placed_behind arch (entries_in bare) s (reached_by arch s))
+    → Agrees (entries_at (reached_by arch s) (frames_from arch 0 0 (reached_by arch s)) places) full
+    → code ≡ listed (code_behind arch (entries_in full) s (reached_by arch s))
+    → code ≡ (task_of arch s source).code
+same_code arch s source rises zeros places bare full code each none agrees first agree second =
+    let hs : List ℕ = reached_by arch s in
+    let fs : List Frame = frames_from arch 0 0 hs in
+    let long : length fs ≡ length hs = frames_length arch 0 0 hs in
+    let start : List Entry = known arch s hs fs long rises in
+    let last : List Entry = entries arch s hs fs long rises in
+    let blank : entries_at hs fs zeros ≡ start = unplaced_is hs fs zeros each none in
+    let first_same : (k : ℕ) → entry_of (entries_in bare) k ≡ entry_of start k = λ k. sym (agrees k) ∙ ap (λ es. entry_of es k) blank in
+    let there : places ≡ map (λ e. e.place) last = first ∙ ap (map (λ e. e.place)) (placed_behind_same arch (entries_in bare) start first_same s hs ∙ first_places arch s hs fs long rises) in
+    let full_is : entries_at hs fs places ≡ last = places_back arch s hs fs long rises places there in
+    let last_same : (k : ℕ) → entry_of (entries_in full) k ≡ entry_of last k = λ k. sym (agree k) ∙ ap (λ es. entry_of es k) full_is in
+    second ∙ ap listed (code_behind_same arch (entries_in full) last last_same s hs ∙ second_code arch s hs fs long rises)
+
+pub code_is : (arch : Arch) (s : ℕ) (source : Source) → IsStrictlyIncreasing (reached_by arch s) → (hs : List ℕ) → hs ≡ reached_by arch s → (zeros places : List ℕ) (bare full : Frames) (code : List Instr) → length zeros ≡ length hs → ((k : ℕ) → k < length zeros → get_or zeros k 0 ≡ 0)
+    → Agrees (entries_at hs (frames_from arch 0 0 hs) zeros) bare
+    → places ≡ map (λ e. e.place) (placed_behind arch (entries_in bare) s hs)
+    → Agrees (entries_at hs (frames_from arch 0 0 hs) places) full
+    → code ≡ listed (code_behind arch (entries_in full) s hs)
+    → code ≡ (task_of arch s source).code
+code_is arch s source rises hs is =
+    let P : List ℕ → Type 0 = λ ks. (zeros places : List ℕ) (bare full : Frames) (code : List Instr) → length zeros ≡ length ks → ((k : ℕ) → k < length zeros → get_or zeros k 0 ≡ 0)
+        → Agrees (entries_at ks (frames_from arch 0 0 ks) zeros) bare
+        → places ≡ map (λ e. e.place) (placed_behind arch (entries_in bare) s ks)
+        → Agrees (entries_at ks (frames_from arch 0 0 ks) places) full
+        → code ≡ listed (code_behind arch (entries_in full) s ks)
+        → code ≡ (task_of arch s source).code in
+    subst P (sym is) (same_code arch s source rises)
+
+-- ---- the tasks
+
+tasks-push : (arch : Arch) (s : ℕ) (xs : List Source) (x : Source) → tasks_from arch s (xs ++ x ∷ []) ≡ tasks_from arch s xs ++ task_of arch (s + length xs) x ∷ []
+tasks-push arch s [] x = let same : s ≡ s + 0 = omega arith in ap (λ k. task_of arch k x ∷ []) same
+tasks-push arch s (y ∷ ys) x =
+    let next : suc s + length ys ≡ s + suc (length ys) = omega arith in
+    ap (λ ts. task_of arch s y ∷ ts) (tasks-push arch (suc s) ys x ∙ ap (λ k. tasks_from arch (suc s) ys ++ task_of arch k x ∷ []) next)
+
+pub tasks_more : (arch : Arch) (k : ℕ) (d : Source) (old new : List Task) (task : Task) → k < length arch.sources → old ≡ tasks_from arch 0 (take k arch.sources) → new ≡ old ++ task ∷ [] → task ≡ task_of arch k (get_or arch.sources k d) → new ≡ tasks_from arch 0 (take (k + 1) arch.sources)
+tasks_more arch k d old new task within before grown is =
+    let count : k ≡ 0 + length (take k arch.sources) = omega (arith, length-take k arch.sources, within) in
+    let x : Source = get_or arch.sources k d in
+    grown ∙ (λ t. before t ++ is t ∷ [])
+    ∙ ap (λ j. tasks_from arch 0 (take k arch.sources) ++ task_of arch j x ∷ []) count
+    ∙ sym (tasks-push arch 0 (take k arch.sources) x)
+    ∙ ap (tasks_from arch 0) (sym (take_more arch.sources k d within))
+
+-- the plan of a source among all plans
+pub plan_at : (arch : Arch) (plans : List TaskPlan) (k : ℕ) (d p : TaskPlan) → plans ≡ plans_of arch → k < length plans → p ≡ get_or plans k d → (k < length arch.sources) × (p ≡ plan_of arch k)
+plan_at arch plans k d p is within read =
+    let n : ℕ = length arch.sources in
+    let many : length plans ≡ n = ap length is ∙ length-map (numbers_before n []) (plan_of arch) ∙ count n in
+    let below : k < n = omega (arith, within, many) in
+    (below, read ∙ ap (λ ps. get_or ps k d) is ∙ get_or-map (plan_of arch) (numbers_before n []) k k d (inside n below) ∙ ap (plan_of arch) (number_at n k k below))
+  where
+    count : (n : ℕ) → length (numbers_before n []) ≡ n
+    count n = omega (arith, length-numbers n [])
+
+    inside : (n : ℕ) → k < n → k < length (numbers_before n [])
+    inside n h = omega (arith, h, length-numbers n [])

@@ -82,7 +82,7 @@ monitors_are arch hs marks slice found worked same e =
 
 -- ---- the law
 
-number_at : (n s d : ℕ) → s < n → get_or (numbers_before n []) s d ≡ s
+pub number_at : (n s d : ℕ) → s < n → get_or (numbers_before n []) s d ≡ s
 number_at zero s d h = absurd (omega (arith, h))
 number_at (suc n) s d h =
     let few : length (numbers_before n []) ≡ n = omega (arith, length-numbers n []) in
