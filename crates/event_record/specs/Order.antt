@@ -78,7 +78,7 @@ pub data MakesMarks (arch : Arch) (l : Bytes) : List Mark → Type 0 where
 
 pub data IsWrongMark (arch : Arch) (l : Bytes) : OrderKind → Type 0 where
   no_form : is_passed_over (words l) ≡ false → ((f : Form) → HasForm (words l) f → ⊥) → IsWrongMark arch l wrong.Line
-  no_source : {act : Act} {name : Bytes} → HasForm (words l) (marked act name) → source_named arch name ≡ None → IsWrongMark arch l wrong.Name
+  no_source : {act : Act} {name : Bytes} → is_passed_over (words l) ≡ false → HasForm (words l) (marked act name) → source_named arch name ≡ None → IsWrongMark arch l wrong.Name
 
 -- an order may have any number of marks
 abbrev pub AreTooManyMarks : ℕ → OrderKind → Type 0
