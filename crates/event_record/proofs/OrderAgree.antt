@@ -1,6 +1,8 @@
 -- The judge of a mark's line says what the format says.
 use Rattle.std.proofs.Common.{◌≡◌, ◌<◌, ◌≤◌, ◌^◌, ℕ, List, [], ◌∷◌, Bool, true, false, cond, refl, ap, sym, ◌∙◌, subst, arith, Option, Some, None, codes}
 use Rattle.std.specs.Prelude.{bytes_eq, is_some}
+use Rattle.std.specs.Str.Parse.{AllDigits}
+use Rattle.std.proofs.lemmas.Fmt.{decimal_is_IsNumeral}
 use Rattle.std.proofs.lemmas.Slice.Eq.{bytes_eq-Decides}
 use Rattle.tower_syntax.specs.declared.event.Mark.{Mark}
 use Rattle.tower_syntax.specs.declared.event.Mark.TheVariants as mark
@@ -26,12 +28,26 @@ mark_is ws f s_starts = refl
 mark_is ws f r_runs = refl
 mark_is ws f o_puts = refl
 
+-- a word that has another byte than digits is no count
+count_by : (w : Bytes) (o : Option ℕ) → number_in 0 instruction_limit w ≡ o → (AllDigits 10 w → ⊥) → is_some o ≡ false
+count_by w None e d = refl
+count_by w (Some n) e d =
+    let k = within_of 0 instruction_limit n w e in
+    let small : n < 2 ^ 64 = omega (arith, k.greatest) in
+    absurd (d (subst (AllDigits 10) (sym k.spelled) (decimal_is_IsNumeral n small).0.1))
+
+no_count : (w : Bytes) → (AllDigits 10 w → ⊥) → is_count w ≡ false
+no_count w d = count_by w (number_in 0 instruction_limit w) refl d
+
+uncounted : (w : Bytes) (ws : List Bytes) (f : Form) → (AllDigits 10 w → ⊥) → bare_form (w ∷ ws) ≡ Some f → form_of (w ∷ ws) ≡ Some f
+uncounted w ws f d h = ap (λ b. cond b (bare_form ws) (bare_form (w ∷ ws))) (no_count w d) ∙ h
+
 -- the first word of a mark is no count
 bare_is : (ws : List Bytes) (f : Form) → SpellsMark ws f → form_of ws ≡ Some f
-bare_is ws f a_arrives = refl
-bare_is ws f s_starts = refl
-bare_is ws f r_runs = refl
-bare_is ws f o_puts = refl
+bare_is ws f a_arrives = uncounted (codes "a") [] f (λ d. omega (arith, d.0)) refl
+bare_is ws f (s_starts {name = name}) = uncounted (codes "s") (name ∷ []) f (λ d. omega (arith, d.0)) refl
+bare_is ws f (r_runs {name = name}) = uncounted (codes "r") (name ∷ []) f (λ d. omega (arith, d.0)) refl
+bare_is ws f (o_puts {name = name}) = uncounted (codes "o") (name ∷ []) f (λ d. omega (arith, d.0)) refl
 
 form_is : (ws : List Bytes) (f : Form) → HasForm ws f → form_of ws ≡ Some f
 form_is ws f (bare s) = bare_is ws f s

@@ -33,3 +33,12 @@ passes_none p xs i h e =
 -- the same over what elements are seen as
 pub seen_at : {X Y : Type 0} (f : X → Y) (xs : List X) (i : ℕ) (x : X) → i < length xs → x ≡ get_or xs i x → get_or (map f xs) i (f x) ≡ f x
 seen_at f xs i x h e = get_or-map f xs i x (f x) h ∙ ap f (sym e)
+
+pub seen_here : {X Y : Type 0} (f : X → Y) (p : Y → Bool) (xs : List X) (i : ℕ) (x : X) → i < length xs → x ≡ get_or xs i x → p (f x) ≡ true → PassedBy p (map f xs) i → Some i ≡ position p (map f xs)
+seen_here f p xs i x h e t g = passes_here p (map f xs) i (f x) (omega (arith, h, length-map xs f)) (ap p (seen_at f xs i x h e) ∙ t) g
+
+pub seen_more : {X Y : Type 0} (f : X → Y) (p : Y → Bool) (xs : List X) (i : ℕ) (x : X) → i < length xs → x ≡ get_or xs i x → p (f x) ≡ false → PassedBy p (map f xs) i → PassedBy p (map f xs) (i + 1)
+seen_more f p xs i x h e t g = passes_more p (map f xs) i (f x) (omega (arith, h, length-map xs f)) (ap p (seen_at f xs i x h e) ∙ t) g
+
+pub seen_none : {X Y : Type 0} (f : X → Y) (p : Y → Bool) (xs : List X) (i : ℕ) → length xs ≤ i → PassedBy p (map f xs) i → None ≡ position p (map f xs)
+seen_none f p xs i h g = passes_none p (map f xs) i (omega (arith, h, length-map xs f)) g
