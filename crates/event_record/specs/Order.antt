@@ -18,16 +18,22 @@ use Rattle.event_record.specs.Format.{Format, Spells, IsFirst}
 
 -- the first words of the lines of a run's or a replay's text that are no marks
 abbrev pub state_lines : List Bytes
-state_lines = codes "out" ∷ codes "state" ∷ codes "held" ∷ codes "waiting" ∷ codes "pending" ∷ codes "lost" ∷ []
+state_lines = codes "out" ∷ codes "state" ∷ codes "held" ∷ codes "lost" ∷ []
+
+abbrev pub replay_lines : List Bytes
+replay_lines = codes "waiting" ∷ codes "pending" ∷ codes "misfit" ∷ []
+
+abbrev pub rule_lines : List Bytes
+rule_lines = codes "waits" ∷ codes "core" ∷ []
 
 abbrev pub end_lines : List Bytes
-end_lines = codes "count" ∷ codes "waits" ∷ codes "core" ∷ codes "done" ∷ codes "stopped" ∷ codes "misfit" ∷ []
+end_lines = codes "count" ∷ codes "done" ∷ codes "stopped" ∷ []
 
 abbrev pub is_among : List Bytes → Bytes → Bool
 is_among firsts w = list_any (λ first. bytes_eq w first) firsts
 
 abbrev pub begins_other_line : Bytes → Bool
-begins_other_line w = is_among state_lines w || is_among end_lines w
+begins_other_line w = is_among state_lines w || is_among replay_lines w || is_among rule_lines w || is_among end_lines w
 
 -- words of a line that is passed over
 abbrev pub is_passed_over : List Bytes → Bool
@@ -78,7 +84,7 @@ pub data MakesMarks (arch : Arch) (l : Bytes) : List Mark → Type 0 where
 
 pub data IsWrongMark (arch : Arch) (l : Bytes) : OrderKind → Type 0 where
   no_form : is_passed_over (words l) ≡ false → ((f : Form) → HasForm (words l) f → ⊥) → IsWrongMark arch l wrong.Line
-  no_source : {act : Act} {name : Bytes} → HasForm (words l) (marked act name) → source_named arch name ≡ None → IsWrongMark arch l wrong.Name
+  no_source : {act : Act} {name : Bytes} → is_passed_over (words l) ≡ false → HasForm (words l) (marked act name) → source_named arch name ≡ None → IsWrongMark arch l wrong.Name
 
 -- an order may have any number of marks
 abbrev pub AreTooManyMarks : ℕ → OrderKind → Type 0

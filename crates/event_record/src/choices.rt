@@ -139,7 +139,9 @@ fn judge_choice(line: &[u8]) -> Result<Option<Choice>, ChoiceKind>
 
 /// Adds the choice of a line, if there is one, and says how the line is wrong.
 fn add_line(choices: &mut Vec<Choice>, line: &[u8]) -> Result<Option<ChoiceKind>, AllocError>
-    ensures { IfOk result (λ kind. added_or kind choices.new.items ≡ with_line over_choices choices.old.items (judge_choice line.now)) }
+    requires { vec_len choices.old ≤ CHOICE_LIMIT }
+    ensures few { vec_len choices.new ≤ CHOICE_LIMIT }
+    ensures added { IfOk result (λ kind. added_or kind choices.new.items ≡ with_line over_choices choices.old.items (judge_choice line.now)) }
 {
     match judge_choice(line) {
         Err(kind) => Ok(Some(kind)),
@@ -157,6 +159,7 @@ fn add_line(choices: &mut Vec<Choice>, line: &[u8]) -> Result<Option<ChoiceKind>
 /// The choices of a text that is not too long.
 fn choices_of(alloc: Global, bytes: &[u8]) -> Result<Vec<Choice>, ChoiceFault>
     requires { length bytes.now ≤ BYTE_LIMIT }
+    ensures few { IfOk result (λ choices. vec_len choices ≤ CHOICE_LIMIT) }
     ensures ok { IfOk result (λ choices. walk judge_choice over_choices 1 [] (lines bytes.now) ≡ Ok choices.items) }
     ensures fault { IfErr result (IsTold (walk judge_choice over_choices 1 [] (lines bytes.now))) }
 {

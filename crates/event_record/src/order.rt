@@ -1,10 +1,10 @@
 //! Reads orders, which are lists of marks.
-ghost use Rattle.std.specs.Prelude.{◌≡◌, ◌≤◌, ◌^◌, [], ◌∷◌, length, map, All, IfOk, IfErr, Ok};
+ghost use Rattle.std.specs.Prelude.{◌≡◌, ◌≤◌, ◌^◌, [], ◌∷◌, length, map, All, IfOk, IfErr, Ok, bytes_eq};
 ghost use Rattle.tower_syntax.specs.View.{source_of};
 ghost use Rattle.event_record.specs.Lines.{lines, words};
 ghost use Rattle.event_record.specs.FewWords.{listed};
 ghost use Rattle.event_record.specs.Judged.{judged_of, with_line, added_or, walk};
-ghost use Rattle.event_record.specs.Order.{SpellsOrder, IsOrderFault, NamesSource, is_among, state_lines, end_lines, begins_other_line, source_at, mark_of};
+ghost use Rattle.event_record.specs.Order.{SpellsOrder, IsOrderFault, NamesSource, is_among, state_lines, replay_lines, rule_lines, end_lines, begins_other_line, source_at, mark_of};
 ghost use Rattle.event_record.specs.OrderLine.{act_of, marked_by, bare_form, form_of, is_count, judge_mark, over_marks, IsTold};
 ghost use Rattle.event_record.specs.FormSeen.{IsForm};
 
@@ -74,28 +74,43 @@ fn act_of(word: &[u8]) -> Option<Act>
     }
 }
 
+fn is_word(word: &[u8], other: &[u8]) -> bool
+    ensures { result ≡ bytes_eq word.now other.now }
+{
+    word == other
+}
+
 fn begins_state_line(word: &[u8]) -> bool
     ensures { result ≡ is_among state_lines word.now }
 {
-    matches!(
-        word,
-        b"out" | b"state" | b"held" | b"waiting" | b"pending" | b"lost"
-    )
+    matches!(word, b"out" | b"state" | b"held" | b"lost")
+}
+
+fn begins_replay_line(word: &[u8]) -> bool
+    ensures { result ≡ is_among replay_lines word.now }
+{
+    is_word(word, b"waiting") || is_word(word, b"pending") || is_word(word, b"misfit")
+}
+
+fn begins_rule_line(word: &[u8]) -> bool
+    ensures { result ≡ is_among rule_lines word.now }
+{
+    matches!(word, b"waits" | b"core")
 }
 
 fn begins_end_line(word: &[u8]) -> bool
     ensures { result ≡ is_among end_lines word.now }
 {
-    matches!(
-        word,
-        b"count" | b"waits" | b"core" | b"done" | b"stopped" | b"misfit"
-    )
+    is_word(word, b"count") || is_word(word, b"done") || is_word(word, b"stopped")
 }
 
 fn begins_other_line(word: &[u8]) -> bool
     ensures { result ≡ begins_other_line word.now }
 {
-    begins_state_line(word) || begins_end_line(word)
+    begins_state_line(word)
+        || begins_replay_line(word)
+        || begins_rule_line(word)
+        || begins_end_line(word)
 }
 
 /// The mark of a first word and the words behind it.
