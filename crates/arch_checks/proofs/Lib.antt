@@ -16,3 +16,7 @@ pub mod Values
 pub mod Facts
 pub mod InOrder
 pub mod Verdict
+pub mod FirstFaults
+pub mod WorkedFaults
+pub mod Computed
+pub mod WorkedSystems

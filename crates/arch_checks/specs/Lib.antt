@@ -8,4 +8,7 @@ pub mod TypeNodes
 pub mod Kept
 pub mod Wide
 pub mod WorkedSizes
+pub mod WorkedFaults
+pub mod WorkedTypes
+pub mod WorkedSystems
 pub mod Laws

@@ -3,6 +3,9 @@ ghost use Rattle.arch_checks.specs.WorkedSizes.{WorkedSizes};
 ghost use Rattle.arch_checks.specs.Laws.{AcceptedFilesAreSafe, NumbersAreKept, TypesAreWide, TypesAreShallow, WalksAreShort, SystemsAreInFileOrder};
 ghost use Rattle.arch_checks.specs.Wide.{WideTypesHaveWords, ValuesAreShallow};
 ghost use Rattle.arch_checks.specs.Laws.{OneVerdict, MemoryIsNoFault, WrittenTypesCount};
+ghost use Rattle.arch_checks.specs.WorkedFaults.{WorkedLengths, WorkedReadings, WorkedNames};
+ghost use Rattle.arch_checks.specs.WorkedTypes.{WorkedLiterals, WorkedPlaces, WorkedSums, WorkedBits, WorkedComparisons, WorkedTruths, WorkedChoices, WorkedSets, WorkedCopies, WorkedHeights, WorkedFiles};
+ghost use Rattle.arch_checks.specs.WorkedSystems.{WorkedSystems, WorkedBounds, WorkedLinks};
 
 /// What an accepted file keeps: its numbers name what exists and are in their ranges, each node has its type, no source
 /// reaches a cycle, and nothing is above its limit.
@@ -50,4 +53,33 @@ pub fn written_types_count()
 /// Worked depths and widths. The body is empty: the check computes what the contract says.
 pub fn worked_sizes()
     ensures { WorkedSizes }
+{}
+
+/// The first faults of texts, and texts without one, by their reading and their names.
+pub fn worked_faults()
+    ensures lengths { WorkedLengths }
+    ensures readings { WorkedReadings }
+    ensures names { WorkedNames }
+{}
+
+/// The first faults of texts, and texts without one, by their types.
+pub fn worked_types()
+    ensures literals { WorkedLiterals }
+    ensures places { WorkedPlaces }
+    ensures sums { WorkedSums }
+    ensures bits { WorkedBits }
+    ensures comparisons { WorkedComparisons }
+    ensures truths { WorkedTruths }
+    ensures choices { WorkedChoices }
+    ensures sets { WorkedSets }
+    ensures copies { WorkedCopies }
+    ensures heights { WorkedHeights }
+    ensures files { WorkedFiles }
+{}
+
+/// Texts that are accepted, with their systems, and the first faults of texts by their bounds and links.
+pub fn worked_systems()
+    ensures systems { WorkedSystems }
+    ensures bounds { WorkedBounds }
+    ensures links { WorkedLinks }
 {}

@@ -9,7 +9,8 @@ pub mod Cuts
 pub mod States
 pub mod Listed
 pub mod Steps
-pub mod Fitting
 pub mod Parts
 pub mod Walks
-pub mod Rows
+pub mod TextRows
+pub mod RunRows
+pub mod FaultRows

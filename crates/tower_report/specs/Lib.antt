@@ -6,5 +6,8 @@ pub mod RunText
 pub mod ReplayText
 pub mod Puts
 pub mod Worked
+pub mod WorkedTexts
+pub mod WorkedRuns
 pub mod CheckText
 pub mod FaultText
+pub mod WorkedFaults

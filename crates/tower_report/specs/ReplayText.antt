@@ -1,37 +1,20 @@
--- The text of a replay: the outputs, and the state that the marks lead to. Monitors and sources are numbers here.
-use Rattle.std.specs.Prelude.{ℕ, ◌+◌, List, [], ◌∷◌, ◌++◌, flat_map, length, Option, Some, None, codes, decimal, slice_index_or}
+-- The text of a replay: the outputs, the state that the marks lead to, and the first misfit. Monitors and sources are
+-- numbers here.
+use Rattle.std.specs.Prelude.{ℕ, List, [], ◌∷◌, ◌++◌, flat_map, length, Option, Some, None, codes, decimal, slice_index_or}
 use Rattle.tower_types.specs.Ty.{shapes_of}
 use Rattle.tower_types.specs.Value.{Value, parts, no_values}
 use Rattle.tower_syntax.specs.declared.event.Mark.{Mark}
 use Rattle.tower_syntax.specs.Arch.{Arch, Events}
 use Rattle.tower_syntax.specs.Graph.{numbers_before}
 use Rattle.tower_syntax.specs.Weights.{states_of}
-use Rattle.tower_meaning.specs.System.{System, system_of}
-use Rattle.tower_meaning.specs.Atomic.{Atomic, start, act}
+use Rattle.tower_meaning.specs.System.{system_of}
+use Rattle.tower_meaning.specs.Atomic.{Atomic}
+use Rattle.tower_meaning.specs.Replayed.{replayed}
 use Rattle.arch_checks.specs.Offences.{source_name}
 use Rattle.tower_report.specs.Bytes.{Bytes, line}
 use Rattle.tower_report.specs.ValueText.{value_text, texts_of_values, parts_of, shapes_in}
 use Rattle.tower_report.specs.MarkText.{output_name, output_shape}
 use Rattle.tower_report.specs.EndText.{monitor_name, state_lines, losses_text}
-
--- ---- the replay
-
--- a state, with the number of the first mark that does not fit it, if one does not
-pub record Replayed : Type 0 where
-  pub state : Atomic
-  pub misfit : Option ℕ
-
--- k marks lead to `next`, or the k-th does not fit s; the other marks follow
-abbrev pub replayed_from : System → Events → ℕ → Atomic → (next : Option Atomic) → List Mark → Replayed
-replayed_from system events k s None ms = record { state = s; misfit = Some k }
-replayed_from system events k s (Some t) [] = record { state = t; misfit = None }
-replayed_from system events k s (Some t) (m ∷ ms) = replayed_from system events (k + 1) t (act system events t m) ms
-
-abbrev pub replayed : Arch → Events → List Mark → Replayed
-replayed arch events marks =
-    let first = start (system_of arch) in replayed_from (system_of arch) events 0 first (Some first) marks
-
--- ---- its text
 
 -- an output with its message
 abbrev pub message_line : Arch → ℕ × Value → Bytes
@@ -66,7 +49,8 @@ state_text arch s =
     ++ flat_map (λ x. source_text arch x (length (slice_index_or s.queues x [])) (length (slice_index_or s.pending x []))) (numbers_before (length arch.sources) [])
     ++ losses_text arch s.lost
 
+-- with the state before the first misfit, where there is one
 abbrev pub replay_text : Arch → Events → List Mark → Bytes
 replay_text arch events marks =
-    let r = replayed arch events marks in
+    let r = replayed (system_of arch) events marks in
     state_text arch r.state ++ replay_end r.misfit

@@ -4,6 +4,7 @@
 pub mod checks;
 pub mod ends;
 pub mod faults;
+pub mod laws;
 pub mod marks;
 mod pieces;
 pub mod replays;
