@@ -1,8 +1,11 @@
 -- The code of a task depends on its entries only by what is found of each handler.
-use Rattle.std.proofs.Common.{◌≡◌, ◌≢◌, ◌∙◌, ℕ, zero, suc, ◌+◌, ◌<◌, List, [], ◌∷◌, ◌++◌, length, map, take, pos, get_or, slice_index_or, refl, ap, sym, subst, arith}
+use Rattle.std.proofs.Common.{◌≡◌, ◌≢◌, ◌∙◌, ℕ, zero, suc, ◌+◌, ◌<◌, List, [], ◌∷◌, ◌++◌, length, map, take, pos, get_or, slice_index_or, None, refl, ap, sym, subst, arith}
 use Rattle.std.specs.List.Sorted.{IsStrictlyIncreasing}
 use Rattle.tower_types.specs.declared.scalar.Scalar.TheVariants.{U64}
 use Rattle.tower_types.specs.declared.scalar.BinOp.TheVariants.{Add, Less}
+use Rattle.tower_types.specs.declared.scalar.Scalar.TheVariants.{I64}
+use Rattle.tower_types.specs.Ty.{scalar}
+use Rattle.tower_syntax.specs.declared.arch.SourceKind.TheVariants.{Init}
 use Rattle.tower_syntax.specs.declared.arch.On.TheVariants as on
 use Rattle.tower_syntax.specs.declared.arch.Listener.{Listener}
 use Rattle.tower_syntax.specs.declared.arch.Listener.TheVariants as to
@@ -267,6 +270,19 @@ tasks_more arch k d old new task within before grown is =
     ∙ ap (λ j. tasks_from arch 0 (take k arch.sources) ++ task_of arch j x ∷ []) count
     ∙ sym (tasks-push arch 0 (take k arch.sources) x)
     ∙ ap (tasks_from arch 0) (sym (take_more arch.sources k d within))
+
+abbrev pub no_source : Source
+no_source = record { name = []; kind = Init; priority = 0; message = scalar I64; depth = None }
+
+pub plans_count : (arch : Arch) (plans : List TaskPlan) → plans ≡ plans_of arch → length plans ≡ length arch.sources
+plans_count arch plans is = ap length is ∙ length-map (numbers_before (length arch.sources) []) (plan_of arch) ∙ count (length arch.sources)
+  where
+    count : (n : ℕ) → length (numbers_before n []) ≡ n
+    count n = omega (arith, length-numbers n [])
+
+pub placed_count : (arch : Arch) (es : List Entry) (hs : List ℕ) (from : ℕ) → length (map (λ e. e.place) (placed_from arch es from hs)) ≡ length hs
+placed_count arch es [] from = refl
+placed_count arch es (h ∷ hs) from = ap suc (placed_count arch es hs (end from (handler_code arch es h (entry_of es h).frame from)))
 
 -- the plan of a source among all plans
 pub plan_at : (arch : Arch) (plans : List TaskPlan) (k : ℕ) (d p : TaskPlan) → plans ≡ plans_of arch → k < length plans → p ≡ get_or plans k d → (k < length arch.sources) × (p ≡ plan_of arch k)

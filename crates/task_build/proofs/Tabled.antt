@@ -83,15 +83,19 @@ pub record Tabled (n : ℕ) (hs : List ℕ) (fs : List Frame) (ps : List ℕ) (m
   pub agrees : Agrees (entries_at (drop (length made) hs) rest (drop (length made) ps)) t
   pub has : (j : ℕ) → length made ≤ j → j < length hs → HasEntry t (get_or hs j 0)
 
-pub table_begun : (n : ℕ) (hs : List ℕ) (fs : List Frame) (ps : List ℕ) (made : List Frame) (t : Frames) → made ≡ fs → length fs ≡ length hs → t.frames ≡ replicate n None → length t.frames ≡ n → length t.entries ≡ n → Tabled n hs fs ps made t
-table_begun n hs fs ps made t same each blank frames entries = record {
+pub replicate_length : {X : Type 0} (n : ℕ) (x : X) → length (replicate n x) ≡ n
+replicate_length zero x = refl
+replicate_length (suc n) x = ap suc (replicate_length n x)
+
+pub table_begun : (m n : ℕ) (hs : List ℕ) (fs : List Frame) (ps : List ℕ) (made : List Frame) (t : Frames) → m ≡ n → made ≡ fs → length fs ≡ length hs → t.frames ≡ replicate m None → t.entries ≡ replicate m 0 → Tabled n hs fs ps made t
+table_begun m n hs fs ps made t many same each frames entries = record {
   rest = [];
   whole = append-none made ∙ same;
-  frames = frames;
-  entries = entries;
+  frames = ap length frames ∙ replicate_length m None ∙ many;
+  entries = ap length entries ∙ replicate_length m 0 ∙ many;
   agrees =
     let past : length hs ≤ length made = omega (arith, each, ap length same) in
-    subst (λ ks. Agrees (entries_at ks [] (drop (length made) ps)) t) (sym (drop_all (length made) hs past)) (nothing_found t n blank);
+    subst (λ ks. Agrees (entries_at ks [] (drop (length made) ps)) t) (sym (drop_all (length made) hs past)) (nothing_found t m frames);
   has = λ j late early. absurd (omega (arith, late, early, each, ap length same));
 }
 
@@ -124,6 +128,13 @@ put_agrees t u h p f es framed placed one two agrees k =
           let at : slice_get u.entries k ≡ slice_get t.entries k = ap (λ ns. slice_get ns k) placed ∙ set_other t.entries h k p differ in
           entry_there e es k differ ∙ agrees k ∙ entry_looked t k ∙ sym (entry_looked u k ∙ (λ i. found k (seen i) (at i)))
     ]
+
+-- the frame that is taken is that of one of the handlers
+pub table_within : (n : ℕ) (hs : List ℕ) (fs : List Frame) (ps : List ℕ) (made less : List Frame) (f : Frame) (t : Frames) → length fs ≡ length hs → Tabled n hs fs ps made t → made ≡ less ++ f ∷ [] → length less < length hs
+table_within n hs fs ps made less f t each so cut =
+    let longer : length made ≡ length less + 1 = ap length cut ∙ length-append less (f ∷ []) in
+    let all : length made + length so.rest ≡ length fs = sym (length-append made so.rest) ∙ ap length so.whole in
+    omega (arith, longer, all, each)
 
 -- one handler more
 pub table_more : (n : ℕ) (hs : List ℕ) (fs : List Frame) (ps : List ℕ) (made less : List Frame) (f : Frame) (h p : ℕ) (t u : Frames) → length fs ≡ length hs → length ps ≡ length hs → Tabled n hs fs ps made t
