@@ -41,7 +41,7 @@ returns c =
     let n = length c.as_slice-handlers.result.now in
     let zeros = c.as_slice.result.now in
     let places = c.as_slice-2.result.now in
-    let zeros_are : zeros ≡ replicate n 0 = c.as_slice.ensures.value ∙ c.in_ok-zeros.ensures.items in
+    let zeros_are : zeros ≡ replicate n 0 = c.as_slice.ensures.value ∙ c.in_ok-zeros.ensures.items_if_clones_equal (λ y e. e) in
     let count : length zeros ≡ n = ap length zeros_are ∙ replicate_length n 0 in
     λ source.
     code_is arch s source (plans_hold arch s c.requires.numbered).handlers_ascend hs (ap (λ (p : TaskPlan). p.handlers) c.requires.plan) zeros places c.in_ok-bare.bare c.in_ok-full.full c.instrs.result
