@@ -14,11 +14,13 @@ use Rattle.channel_graph.specs.declared.circuit.CycleFound.{CycleFound}
 use Rattle.channel_graph.specs.Circuit.{shown}
 use Rattle.channel_graph.proofs.Acyclic.{shown_none}
 use Rattle.arch_checks.specs.declared.fault.What.{What}
+use Rattle.arch_checks.specs.declared.fault.Fault.{Fault}
 use Rattle.arch_checks.specs.Limits.{limit, work_limit}
 use Rattle.arch_checks.specs.Sizes.{Counts}
-use Rattle.arch_checks.specs.Offences.{Standing, Precedes, types, bound, cycle, size, work, IsAccepted}
-use Rattle.arch_checks.specs.Laws.{AcceptedFilesAreSafe, OneSystem, OneFault, NotBoth, TypesAreCounted, WrittenTypesCount}
+use Rattle.arch_checks.specs.Offences.{Standing, Precedes, types, bound, cycle, size, work, IsFault, IsAccepted}
+use Rattle.arch_checks.specs.Laws.{AcceptedFilesAreSafe, TypesAreCounted, WrittenTypesCount}
 use Rattle.arch_checks.specs.declared.widths.Measure.TheVariants as measure
+use Rattle.arch_checks.proofs.Ranged.{keeps_numbers}
 use Rattle.arch_checks.proofs.TypesWritten.{same_greatest}
 use Rattle.arch_checks.proofs.Trees.{named_numbered, system_once}
 
@@ -48,25 +50,29 @@ safe bs arch h =
       typed = typed s.named arch n s.checked;
       scalars = proper_scalars s.named arch n s.checked;
       shallow = shallow s.named arch s.checked (types_clean bs arch h);
+      numbers = keeps_numbers bs arch h;
       bounded = λ m e o. h.clean _ _ (bound arch m e s o);
       acyclic = (shown_none arch (shown arch) w.listeners refl).0 (no_cycle bs arch h);
       within = within bs arch h;
       cheap = cheap bs arch h;
     }
 
-pub one_system : OneSystem
+-- a text is accepted as at most one system
+pub one_system : (bs : List ℕ) (a b : Arch) → IsAccepted bs a → IsAccepted bs b → a ≡ b
 one_system bs a b h k = system_once bs a b h.system k.system
 
 never_both : (p q : Standing) → Precedes p q → Precedes q p → ⊥
 never_both p q h k = grind (arith, h, k)
 
-pub one_fault : OneFault
+-- and has at most one fault
+pub one_fault : (bs : List ℕ) (f g : Fault) → IsFault bs f → IsFault bs g → f ≡ g
 one_fault bs f g h k = elim (h.first k.at g k.offends) [
   | inl e ↦ sym e
   | inr l ↦ elim (k.first h.at f h.offends) [ inl e ↦ e | inr m ↦ absurd (never_both h.at k.at l m) ]
 ]
 
-pub not_both : NotBoth
+-- and not both
+pub not_both : (bs : List ℕ) (arch : Arch) (f : Fault) → IsAccepted bs arch → IsFault bs f → ⊥
 not_both bs arch f h k = h.clean k.at f k.offends
 
 pub written : WrittenTypesCount

@@ -9,4 +9,10 @@ pub mod Told
 pub mod Lists
 pub mod TypesCounted
 pub mod TypesWritten
+pub mod Ranged
 pub mod Accepted
+pub mod Goods
+pub mod Values
+pub mod Facts
+pub mod InOrder
+pub mod Verdict

@@ -3,10 +3,7 @@ use Rattle.std.proofs.Common.{inl, inr, ◌≤◌, ℕ, List, [], ◌∷◌, ◌
 use Rattle.arch_types.specs.Outline.{each}
 use Rattle.channel_graph.proofs.Members.{In}
 use Rattle.arch_checks.specs.Sizes.{greatest}
-
-abbrev pub AllOf : {X : Type 0} → (X → Type 0) → List X → Type 0
-AllOf P [] = Unit {0}
-AllOf P (x ∷ xs) = P x × AllOf P xs
+pub use Rattle.arch_types.proofs.Lists.{AllOf, all_both as both, all_left as front, all_right as back}
 
 pub all_of : {X : Type 0} (P : X → Type 0) (xs : List X) → ((x : X) → In x xs → P x) → AllOf P xs
 all_of P [] h = tt
@@ -16,18 +13,6 @@ pub of_all : {X : Type 0} (P : X → Type 0) (xs : List X) (x : X) → AllOf P x
 of_all P [] x h i = absurd i
 of_all P (y ∷ ys) x h (inl e) = subst P (sym e) h.0
 of_all P (y ∷ ys) x h (inr i) = of_all P ys x h.1 i
-
-pub both : {X : Type 0} (P : X → Type 0) (xs ys : List X) → AllOf P xs → AllOf P ys → AllOf P (xs ++ ys)
-both P [] ys h k = k
-both P (x ∷ xs) ys h k = (h.0, both P xs ys h.1 k)
-
-pub front : {X : Type 0} (P : X → Type 0) (xs ys : List X) → AllOf P (xs ++ ys) → AllOf P xs
-front P [] ys h = tt
-front P (x ∷ xs) ys h = (h.0, front P xs ys h.1)
-
-pub back : {X : Type 0} (P : X → Type 0) (xs ys : List X) → AllOf P (xs ++ ys) → AllOf P ys
-back P [] ys h = h
-back P (x ∷ xs) ys h = back P xs ys h.1
 
 pub all_each : {X Y : Type 0} (P : Y → Type 0) (of : X → List Y) (xs : List X) → ((x : X) → In x xs → AllOf P (of x)) → AllOf P (each of xs)
 all_each P of [] h = tt

@@ -5,5 +5,7 @@ pub mod Offences
 pub mod Firsts
 pub mod Measured
 pub mod TypeNodes
+pub mod Kept
+pub mod Wide
 pub mod WorkedSizes
 pub mod Laws

@@ -1,18 +1,45 @@
 //! The laws of the definitions. Each is the contract of a function that does nothing.
 ghost use Rattle.arch_checks.specs.WorkedSizes.{WorkedSizes};
-ghost use Rattle.arch_checks.specs.Laws.{AcceptedFilesAreSafe, OneSystem, OneFault, NotBoth, WrittenTypesCount};
+ghost use Rattle.arch_checks.specs.Laws.{AcceptedFilesAreSafe, NumbersAreKept, TypesAreWide, TypesAreShallow, WalksAreShort, SystemsAreInFileOrder};
+ghost use Rattle.arch_checks.specs.Wide.{WideTypesHaveWords, ValuesAreShallow};
+ghost use Rattle.arch_checks.specs.Laws.{OneVerdict, MemoryIsNoFault, WrittenTypesCount};
 
-/// What an accepted file keeps: its numbers name what exists, each node has its type, no source reaches a cycle, and
-/// nothing is above its limit.
+/// What an accepted file keeps: its numbers name what exists and are in their ranges, each node has its type, no source
+/// reaches a cycle, and nothing is above its limit.
 pub fn accepted_files_are_safe()
     ensures { AcceptedFilesAreSafe }
 {}
 
-/// A text is accepted as at most one system, has at most one fault, and never both.
+/// In an accepted system each record has a field, each period has 1 to 1,000,000 milliseconds, each depth is from 1 to
+/// 64, and each emitter's bound is at most 65,536.
+pub fn numbers_law()
+    ensures { NumbersAreKept }
+{}
+
+/// Each message, state and bound name of an accepted system, and so what an output is given, has 1 to 4,096 words. No
+/// record and no type of these is deeper than 32, and no value that fits a type is deeper than it.
+pub fn types_law()
+    ensures wide { TypesAreWide }
+    ensures words { WideTypesHaveWords }
+    ensures shallow { TypesAreShallow }
+    ensures values { ValuesAreShallow }
+{}
+
+/// No walk from a source of an accepted system has more than 100 handlers.
+pub fn walks_law()
+    ensures { WalksAreShort }
+{}
+
+/// The handlers of an accepted system ascend by monitor, and its listeners are the outputs and handlers of the file in
+/// the order of the text.
+pub fn order_law()
+    ensures { SystemsAreInFileOrder }
+{}
+
+/// Each text is accepted as exactly one system, or has exactly one fault. Want of memory is no fault of a text.
 pub fn one_verdict()
-    ensures system { OneSystem }
-    ensures fault { OneFault }
-    ensures never { NotBoth }
+    ensures one { OneVerdict }
+    ensures memory { MemoryIsNoFault }
 {}
 
 /// The depth and the words that have limits are those of the type nodes and records of the text.

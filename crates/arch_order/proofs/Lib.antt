@@ -11,3 +11,4 @@ pub mod Scopes
 pub mod Counted
 pub mod Items
 pub mod Handlers
+pub mod Ranged

@@ -43,6 +43,13 @@ callbacks_after Γ (c ∷ cs) end o f h = let a = o.0 in let b = list_begins c.1
   | inr x ↦ let l = callbacks_after Γ cs end o.2 f x in omega arith
 ]
 
+callbacks_behind : (Γ : Env) (cs : List Callback) (end : ℕ) → AscendCallbacks cs end → (f : TypeFault) → InCallbacks Γ cs f → 0 < offset f
+callbacks_behind Γ [] end o f h = absurd h
+callbacks_behind Γ (c ∷ cs) end o f h = elim h [
+  | inl x ↦ let l = (all_offends_inside c.1 Γ (start_of cs end) o.1 f x).from in let a = o.0 in omega arith
+  | inr x ↦ callbacks_behind Γ cs end o.2 f x
+]
+
 callbacks_before : (Γ : Env) (cs : List Callback) (end : ℕ) → AscendCallbacks cs end → (f : TypeFault) → InCallbacks Γ cs f → offset f < end
 callbacks_before Γ [] end o f h = absurd h
 callbacks_before Γ (c ∷ cs) end o f h = elim h [
@@ -159,6 +166,14 @@ module _ (arch : Arch) where
         | inr x ↦ let a = handlers_after ws end (ascend_right xs ys end o) f x in let b = start_before xs middle l in omega arith
       ]
 
+  handlers_behind : (ws : List Written) (end : ℕ) → AscendCallbacks (callbacks_in ws) end → (f : TypeFault) → InHandlers arch ws f → 0 < offset f
+  handlers_behind [] end o f h = absurd h
+  handlers_behind (w ∷ ws) end o f h =
+      let xs = each callback_of w.parts in let ys = callbacks_in ws in elim h [
+        | inl x ↦ callbacks_behind (entry arch w) xs (start_of ys end) (ascend_left xs ys end o) f x
+        | inr x ↦ handlers_behind ws end (ascend_right xs ys end o) f x
+      ]
+
   handlers_joined : (w : Written) (ws : List Written) (r : Result Handler TypeFault) (q : Result (List Handler) TypeFault) → RightHandler arch w r → RightHandlers arch ws q
       → RightHandlers arch (w ∷ ws) (and_then r (λ h. and_then q (λ hs. Ok (h ∷ hs))))
   handlers_joined w ws (Err f) q h k = λ end o.
@@ -212,6 +227,10 @@ module _ (raw : Raw Link) where
       let (w, i, x) = from_handlers (outline raw) (handlers_of raw) f h in let (c, j, y) = from_callbacks (entry (outline raw) w) (each callback_of w.parts) f x in
       record { handler = w; in_file = i; callback = c; in_handler = j; offends = y }
 
+  -- it stands behind the name of its callback
+  pub offence_inside : (end : ℕ) → AscendsFile raw end → (f : TypeFault) → Offence raw f → 0 < offset f
+  offence_inside end o f h = handlers_behind (outline raw) (handlers_of raw) end o f (to_handlers f h)
+
   module _ (n : IsNumbered raw) (parts : Arch) (e : parts ≡ outline raw) where
     computed : RightHandlers (outline raw) (handlers_of raw) (in_turn (handled parts) (handlers_of raw))
     computed = subst (λ a. RightHandlers (outline raw) (handlers_of raw) (in_turn (handled a) (handlers_of raw))) (sym e) (handlers_right (outline raw) (handlers_of raw) n.handlers)
@@ -225,8 +244,12 @@ module _ (raw : Raw Link) where
       handlers = (subst (RightHandlers (outline raw) (handlers_of raw)) h computed).0;
     }
 
+    -- the fault that is computed is the first offence
+    pub first_is : (f : TypeFault) → in_turn (handled parts) (handlers_of raw) ≡ Err f → (end : ℕ) → AscendsFile raw end → IsFirst (Offence raw) f
+    first_is f h end o = first_of_same (InHandlers (outline raw) (handlers_of raw)) (Offence raw) f to_offence to_handlers (subst (RightHandlers (outline raw) (handlers_of raw)) h computed end o)
+
     pub file_first : (f : TypeFault) → (f ≡ fault.NoMemory) ⊎ (in_turn (handled parts) (handlers_of raw) ≡ Err f) → (end : ℕ) → AscendsFile raw end → (f ≡ fault.NoMemory) ⊎ IsFirst (Offence raw) f
     file_first f h end o = elim h [
       | inl i ↦ inl i
-      | inr i ↦ inr (first_of_same (InHandlers (outline raw) (handlers_of raw)) (Offence raw) f to_offence to_handlers (subst (RightHandlers (outline raw) (handlers_of raw)) i computed end o))
+      | inr i ↦ inr (first_is f i end o)
     ]

@@ -32,3 +32,7 @@ pub mod Listed
 pub mod Turned
 pub mod Entry
 pub mod FileRight
+pub mod Lists
+pub mod Ranged
+pub mod InOrder
+pub mod Verdict

@@ -7,7 +7,9 @@ pub mod Walk
 pub mod Places
 pub mod Seen
 pub mod Outline
+pub mod Ranged
 pub mod File
+pub mod Listed
 pub mod Numbered
 pub mod Turns
 pub mod Worked

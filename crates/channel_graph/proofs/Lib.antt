@@ -24,6 +24,7 @@ pub mod Tables
 pub mod Delivered
 pub mod Rounded
 pub mod Walked
+pub mod Chained
 pub mod Recursed
 pub mod Sounded
 pub mod Settling

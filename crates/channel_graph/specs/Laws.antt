@@ -1,5 +1,5 @@
 -- What the laws say of the definitions.
-use Rattle.std.specs.Prelude.{ℕ, ◌+◌, ◌<◌, ◌≡◌, ◌↔◌, Some, length, map, sum}
+use Rattle.std.specs.Prelude.{ℕ, ◌+◌, ◌<◌, ◌≤◌, ◌≡◌, ◌↔◌, Some, length, map, sum}
 use Rattle.tower_syntax.specs.declared.arch.On.TheVariants as on
 use Rattle.tower_syntax.specs.Arch.{Arch}
 use Rattle.tower_syntax.specs.Graph.{handler, subs, Reaches}
@@ -7,6 +7,7 @@ use Rattle.tower_syntax.specs.Weights.{section, emitter_weight, subscribers_weig
 use Rattle.tower_syntax.specs.WellNumbered.{AreListeners}
 use Rattle.channel_graph.specs.declared.circuit.CycleFound.{CycleFound}
 use Rattle.channel_graph.specs.Circuit.{IsAcyclic, shown}
+use Rattle.channel_graph.specs.Chain.{IsChain}
 use Rattle.channel_graph.specs.Shown.{IsShown}
 
 -- each handler that the source reaches costs its section and all that its emitters hold, where those that these lead to cost as said
@@ -31,3 +32,13 @@ CostFollows =
 -- `shown` computes the one cycle that is shown
 abbrev pub ShownIs : Type 0
 ShownIs = (arch : Arch) (c : CycleFound) → AreListeners arch → (shown arch ≡ Some c) ↔ IsShown arch c
+
+-- a walk from a source than which none is longer, with no more handlers than there are
+pub record HasChain (arch : Arch) : Type 0 where
+  pub handlers : ℕ
+  pub is : IsChain arch handlers
+  pub few : handlers ≤ length arch.handlers
+
+-- where no source reaches a cycle there is one
+abbrev pub ChainsExist : Type 0
+ChainsExist = (arch : Arch) → AreListeners arch → IsAcyclic arch → HasChain arch

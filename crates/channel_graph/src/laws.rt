@@ -1,7 +1,7 @@
 //! Laws of the definitions, and worked cases. The bodies are empty: the check proves or computes what the
 //! contracts say.
 
-ghost use Rattle.channel_graph.specs.Laws.{DeliverRecurs, DeliverIsOnly, CostFollows, ShownIs};
+ghost use Rattle.channel_graph.specs.Laws.{DeliverRecurs, DeliverIsOnly, CostFollows, ShownIs, ChainsExist};
 ghost use Rattle.channel_graph.specs.Worked.{WorkedGraph};
 
 /// Cycles that are shown, what sources reach, and counts of messages of some systems.
@@ -23,4 +23,10 @@ pub fn deliver_law()
 /// computes it, and no other cycle is it.
 pub fn shown_law()
     ensures { ShownIs }
+{}
+
+/// A system in which no source reaches a cycle has a chain, the greatest number of handlers on a walk from a source,
+/// which is at most the number of its handlers.
+pub fn chain_law()
+    ensures { ChainsExist }
 {}

@@ -1,5 +1,5 @@
 -- The delivery of a handler visits all that follows from what it emitted.
-use Rattle.std.proofs.Common.{◌≡◌, ◌∙◌, ◌≢◌, ℕ, zero, suc, ◌+◌, ◌<◌, ◌≤◌, ◌⊎◌, inl, inr, true, List, [], ◌∷◌, length, map, take, sum, Some, None, refl, sym, ap, subst, arith, slice_get, slice_index_or}
+use Rattle.std.proofs.Common.{◌≡◌, ◌∙◌, ◌≢◌, ℕ, suc, ◌+◌, ◌<◌, ◌≤◌, ◌⊎◌, inl, inr, true, List, [], ◌∷◌, length, map, take, sum, Some, None, refl, sym, ap, subst, arith, slice_get, slice_index_or}
 use Rattle.std.proofs.lemmas.Option.{slice_get_within}
 use Rattle.tower_types.specs.Value.{Value, flat}
 use Rattle.tower_syntax.specs.declared.arch.On.TheVariants as on
@@ -24,10 +24,10 @@ use Rattle.task_alone.proofs.Visits.{weaker}
 use Rattle.channel_graph.proofs.Members.{In, filter_has}
 use Rattle.channel_graph.proofs.Linked.{Link, of_link}
 use Rattle.emit_code.specs.Delivery.{Entry, delivery_code}
-use Rattle.emit_code.specs.Entries.{Behind, next, later, frame_in, place_in, InFrame, InFrames, InOwn, Touched, InBuffers, OwnBuffers, TouchedBuffers, HasParts, IsFramed, Returned, Carries, Going}
-use Rattle.emit_code.specs.Delivering.{OfEntry, BeginsDelivery, delivery_end, DeliveryVisits}
+use Rattle.emit_code.specs.Entries.{Behind, next, later, NoneComesBack, frame_in, InFrames, Touched, InBuffers, TouchedBuffers, HasParts, buffer_for, IsFramed, Returned, Carries, Going}
+use Rattle.emit_code.specs.Delivering.{OfEntry, delivery_end, DeliveryVisits}
 use Rattle.emit_code.proofs.Going.{Ready}
-use Rattle.emit_code.proofs.Emitted.{buffer_of, Feeds, AreFed, delivers}
+use Rattle.emit_code.proofs.Emitted.{Feeds, AreFed, delivers}
 use Rattle.emit_code.proofs.Listed.{same_on_channel, exists, all_in, get_in, first_held, not_held}
 
 pub follows_on : (arch : Arch) (h k g : ℕ) → leads arch h k ≡ true → Behind arch k g → Behind arch h g
@@ -59,7 +59,7 @@ module _ (arch : Arch) (p : Program) (t : Task) (x : ℕ) (entries : List Entry)
   buffers_called h k b r led (inl f) = record { number = f.number; reached = f.reached; follows = follows_on arch h k f.number led f.follows; from = f.from; before = f.before }
   buffers_called h k b r led (inr own) = record { number = k; reached = r; follows = next k led; from = own.0; before = own.1 }
 
-module _ (arch : Arch) (p : Program) (t : Task) (x : ℕ) (entries : List Entry) (framed : IsFramed arch p t x entries) (listed : AreListeners arch) (acyclic : (h : ℕ) → Reaches arch x h → Behind arch h h → ⊥) (cost : ℕ → ℕ) where
+module _ (arch : Arch) (p : Program) (t : Task) (x : ℕ) (entries : List Entry) (framed : IsFramed arch p t x entries) (listed : AreListeners arch) (acyclic : NoneComesBack arch x) (cost : ℕ → ℕ) where
   abbrev frames : ℕ → ℕ → Type 0
   frames h a = InFrames arch x entries h a
 
@@ -149,7 +149,7 @@ module _ (arch : Arch) (p : Program) (t : Task) (x : ℕ) (entries : List Entry)
     module _ (o : Own) (formed : IsFormed t o) (calls : suc (length o.calls) ≤ n) (room : n ≤ 256) where
       feeds : (k : ℕ) (e : Emitter) (vs : List Value) (f : Filled) → slice_get (handler arch h).emitters k ≡ Some e → slice_get o.buffers (frame.first_buffer + k) ≡ Some f → f.count ≡ length vs → take f.count f.slots ≡ map flat vs → Feeds arch p t x entries cost n (frames h) (buffers h) (touched h) (buffers h) o frame k e vs
       feeds k e vs f at has count slots =
-          let is : slice_get t.buffers (frame.first_buffer + k) ≡ Some (buffer_of arch e) = framed.tables h k e r at in
+          let is : slice_get t.buffers (frame.first_buffer + k) ≡ Some (buffer_for arch e) = framed.tables h k e r at in
           let below : k < length (handler arch h).emitters = slice_get_within (handler arch h).emitters k e at in
           record {
             around = record {
@@ -163,7 +163,7 @@ module _ (arch : Arch) (p : Program) (t : Task) (x : ℕ) (entries : List Entry)
               room = room;
             };
             buffered = record { filled = f; has = has; count = count; slots = slots };
-            few = framed.few (frame.first_buffer + k) (buffer_of arch e) is;
+            few = framed.few (frame.first_buffer + k) (buffer_for arch e) is;
             ready = ready k e at;
           }
 

@@ -9,7 +9,6 @@ use Rattle.tower_syntax.specs.Graph.{subs}
 use Rattle.tower_syntax.specs.Weights.{emitter_words, emitter_weight}
 use Rattle.tower_meaning.specs.System.{Item, follow_from}
 use Rattle.tower_meaning.specs.Fits.{fits_item}
-use Rattle.task_code.specs.declared.program.Buffer.{Buffer}
 use Rattle.task_code.specs.declared.program.Task.{Task}
 use Rattle.task_code.specs.Program.{Program}
 use Rattle.task_code.specs.Own.{Filled, Own}
@@ -22,13 +21,10 @@ use Rattle.task_alone.specs.SettingOf.{setting_of}
 use Rattle.task_alone.proofs.Visits.{leading, then_on}
 use Rattle.channel_graph.proofs.Members.{In}
 use Rattle.task_code.specs.Formed.{IsFormed}
-use Rattle.emit_code.specs.Entries.{Going}
+use Rattle.emit_code.specs.Entries.{Going, buffer_for}
 use Rattle.emit_code.proofs.Going.{Buffered, Ready, Around}
 use Rattle.emit_code.proofs.Listed.{in_left, in_right}
 use Rattle.emit_code.proofs.Looped.{loops}
-
-abbrev pub buffer_of : Arch → Emitter → Buffer
-buffer_of arch e = record { width = emitter_words arch e; bound = e.bound }
 
 module _ (arch : Arch) (p : Program) (t : Task) (x : ℕ) (entries : List Entry) (cost : ℕ → ℕ) (n : ℕ) (Touch TouchB May MayB : ℕ → Type 0) (u : Own) (frame : Frame) where
   abbrev going : ℕ → Own → Type 0
@@ -36,7 +32,7 @@ module _ (arch : Arch) (p : Program) (t : Task) (x : ℕ) (entries : List Entry)
 
   -- buffer k holds the messages vs of the emitter e, and each of its subscribers is ready for them
   pub record Feeds (k : ℕ) (e : Emitter) (vs : List Value) : Type 0 where
-    pub around : Around t n Touch TouchB May MayB u (frame.temps + 2) (frame.first_buffer + k) (buffer_of arch e) (emitter_words arch e)
+    pub around : Around t n Touch TouchB May MayB u (frame.temps + 2) (frame.first_buffer + k) (buffer_for arch e) (emitter_words arch e)
     pub buffered : Buffered u (frame.first_buffer + k) vs
     pub few : e.bound + 1 < 2 ^ 64
     pub ready : (l : Listener) → In l (subs arch (on.Channel e.channel)) → Ready arch p t x entries cost n Touch TouchB May (frame.temps + 2) (slice_index_or frame.scratch k 0) (emitter_words arch e) l
@@ -53,8 +49,8 @@ module _ (arch : Arch) (p : Program) (t : Task) (x : ℕ) (entries : List Entry)
         (going (end from (emitter_code entries from (frame.temps + 2) (frame.first_buffer + k) (slice_index_or frame.scratch k 0) (emitter_words arch e) (subs arch (on.Channel e.channel)))))
     emitter_visits k e vs feeds fits from stands =
         let f : Filled = feeds.buffered.filled in
-        loops arch p t x entries cost n Touch TouchB May MayB u (frame.temps + 2) (frame.first_buffer + k) (buffer_of arch e) (slice_index_or frame.scratch k 0) (emitter_words arch e) feeds.around f feeds.buffered.has
-        (formed.buffers (frame.first_buffer + k) (buffer_of arch e) f feeds.around.is feeds.buffered.has) may room feeds.few
+        loops arch p t x entries cost n Touch TouchB May MayB u (frame.temps + 2) (frame.first_buffer + k) (buffer_for arch e) (slice_index_or frame.scratch k 0) (emitter_words arch e) feeds.around f feeds.buffered.has
+        (formed.buffers (frame.first_buffer + k) (buffer_for arch e) f feeds.around.is feeds.buffered.has) may room feeds.few
         (subs arch (on.Channel e.channel)) vs feeds.buffered.count feeds.buffered.slots fits feeds.ready from stands
 
     pub delivers : (es : List Emitter) (lists : List (List Value)) (k from : ℕ) → AreFed k es lists → ((q : Item) → In q (follow_from arch es lists) → fits_item arch q ≡ true) → Stands t.code from (delivery_code arch entries frame from k es)

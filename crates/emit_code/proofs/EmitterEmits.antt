@@ -1,7 +1,6 @@
 -- The emission of an emitter's scratch words, from that of any words.
 use Rattle.std.proofs.Common.{refl, arith, ◌≤◌, ◌+◌, ◌≡◌, length, slice_index_or}
 use Rattle.tower_syntax.specs.Weights.{emitter_words}
-use Rattle.task_code.specs.Emitting.{emitted}
 use Rattle.task_code.proofs.Emissions.{emits}
 use Rattle.emit_code.specs.Entries.{frame_in}
 use Rattle.emit_code.specs.Delivering.{EmitterEmits}

@@ -1,5 +1,5 @@
 -- How long the code of a delivery is.
-use Rattle.std.proofs.Common.{◌≡◌, ◌∙◌, ℕ, zero, suc, ◌+◌, ◌*◌, ◌≤◌, List, [], ◌∷◌, length, map, sum, refl, arith, slice_index_or}
+use Rattle.std.proofs.Common.{◌≡◌, ℕ, zero, suc, ◌+◌, ◌*◌, ◌≤◌, List, [], ◌∷◌, length, map, sum, refl, arith, slice_index_or}
 use Rattle.tower_syntax.specs.declared.arch.On.TheVariants as on
 use Rattle.tower_syntax.specs.declared.arch.Listener.{Listener}
 use Rattle.tower_syntax.specs.declared.arch.Listener.TheVariants as to
@@ -7,7 +7,7 @@ use Rattle.tower_syntax.specs.Arch.{Arch, Emitter}
 use Rattle.tower_syntax.specs.Graph.{subs}
 use Rattle.tower_syntax.specs.Weights.{emitter_words, subscribers_weight}
 use Rattle.task_code.specs.declared.frame.Frame.{Frame}
-use Rattle.task_code.specs.Piece.{end, listed, joined}
+use Rattle.task_code.specs.Piece.{end, joined}
 use Rattle.task_code.proofs.Lists.{cons_sum}
 use Rattle.task_code.proofs.Pieces.{size, size_is}
 use Rattle.emit_code.specs.Delivery.{Entry, entry_of, words_got, item_code, emitter_code, delivery_code}

@@ -1,5 +1,5 @@
 -- Each message of a buffer goes to its subscribers.
-use Rattle.std.proofs.Common.{◌≡◌, ◌∙◌, ℕ, zero, suc, ◌+◌, ◌*◌, ◌^◌, ◌<◌, ◌≤◌, inl, inr, pos, Bool, true, false, int_lt, List, [], ◌∷◌, ◌++◌, length, map, take, flat_map, Some, refl, sym, ap, subst, arith, slice_get, slice_set, length-set}
+use Rattle.std.proofs.Common.{◌≡◌, ◌∙◌, ℕ, zero, suc, ◌+◌, ◌*◌, ◌^◌, ◌<◌, ◌≤◌, pos, Bool, true, false, int_lt, List, [], ◌∷◌, length, map, take, flat_map, Some, refl, sym, ap, subst, arith, slice_get, slice_set, length-set}
 use Rattle.std.proofs.Math.Nat.{mod-eq_of_lt, mul-le-mul_right}
 use Rattle.std.proofs.lemmas.Bool.{lt-ltb, le-leb, le-ltb}
 use Rattle.std.proofs.lemmas.List.{append-nil}

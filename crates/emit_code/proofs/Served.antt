@@ -21,7 +21,7 @@ use Rattle.task_alone.specs.Visits.{Visits}
 use Rattle.task_alone.specs.SettingOf.{setting_of}
 use Rattle.task_alone.proofs.Visits.{weaker, leading, then_on, sending}
 use Rattle.channel_graph.proofs.Members.{In}
-use Rattle.task_code.specs.Formed.{HoldWords, IsFormed, ChangesOnly}
+use Rattle.task_code.specs.Formed.{HoldWords, ChangesOnly}
 use Rattle.emit_code.proofs.Going.{Counts, Target, Ready, Around}
 use Rattle.emit_code.specs.Entries.{frame_in, place_in, Entered, Carries}
 use Rattle.emit_code.proofs.Copied.{Got, got}

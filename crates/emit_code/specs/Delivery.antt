@@ -1,14 +1,14 @@
 -- The instructions that deliver what a handler emitted.
-use Rattle.std.specs.Prelude.{ℕ, zero, suc, ◌+◌, ◌==◌, List, [], ◌∷◌, map, length, slice_index_or, pos, Bool, true, false}
+use Rattle.std.specs.Prelude.{ℕ, zero, suc, ◌+◌, ◌==◌, List, [], ◌∷◌, map, slice_index_or, pos, true, false}
 use Rattle.tower_types.specs.declared.scalar.Scalar.TheVariants.{U64}
 use Rattle.tower_types.specs.declared.scalar.BinOp.TheVariants.{Add, Less}
 use Rattle.tower_syntax.specs.declared.arch.On.TheVariants as on
 use Rattle.tower_syntax.specs.declared.arch.Listener.{Listener}
 use Rattle.tower_syntax.specs.declared.arch.Listener.TheVariants as to
-use Rattle.tower_syntax.specs.Arch.{Arch, Handler, Body, Emitter}
-use Rattle.tower_syntax.specs.Graph.{handler, subs}
+use Rattle.tower_syntax.specs.Arch.{Arch, Emitter}
+use Rattle.tower_syntax.specs.Graph.{subs}
 use Rattle.tower_syntax.specs.Weights.{emitter_words}
-use Rattle.task_code.specs.declared.program.Instr.TheVariants.{Push, Ld, St, Bin, Jmp, Jz, Call, Ret, Lock, Unlock, Out, Bclr, Bget, Bcnt}
+use Rattle.task_code.specs.declared.program.Instr.TheVariants.{Push, Ld, St, Bin, Jmp, Jz, Call, Out, Bget, Bcnt}
 use Rattle.task_code.specs.Piece.{Piece, nil, ins, ◌▸◌, end, joined}
 use Rattle.task_code.specs.declared.frame.Frame.{Frame}
 

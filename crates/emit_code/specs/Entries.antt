@@ -1,5 +1,5 @@
 -- The entries of the handlers that a task reaches: where their words and buffers lie, and that one carries out its item.
-use Rattle.std.specs.Prelude.{◌≡◌, ◌≢◌, ◌⊎◌, ◌^◌, ℕ, suc, ◌+◌, ◌<◌, ◌≤◌, List, [], ◌∷◌, length, true, Some, None, slice_get, slice_index, slice_index_or}
+use Rattle.std.specs.Prelude.{◌≡◌, ◌≢◌, ◌⊎◌, ◌^◌, ℕ, ◌+◌, ◌<◌, ◌≤◌, List, [], ◌∷◌, length, true, Some, None, slice_get, slice_index, slice_index_or}
 use Rattle.tower_types.specs.Value.{Value, flat}
 use Rattle.tower_syntax.specs.declared.arch.On.TheVariants as on
 use Rattle.tower_syntax.specs.declared.arch.Listener.TheVariants as to
@@ -28,6 +28,10 @@ pub data Behind (arch : Arch) (h : ℕ) : ℕ → Type 0 where
   next : (k : ℕ) → leads arch h k ≡ true → Behind arch h k
   later : (j k : ℕ) → Behind arch h j → leads arch j k ≡ true → Behind arch h k
 
+-- no handler that source x reaches is behind itself
+abbrev pub NoneComesBack : Arch → ℕ → Type 0
+NoneComesBack arch x = (k : ℕ) → Reaches arch x k → Behind arch k k → ⊥
+
 -- the word a belongs to the frame of h
 abbrev pub InFrame : List Entry → ℕ → ℕ → Type 0
 InFrame entries h a = ((frame_in entries h).param ≤ a) × (a < (frame_in entries h).end)
@@ -36,9 +40,13 @@ InFrame entries h a = ((frame_in entries h).param ≤ a) × (a < (frame_in entri
 abbrev pub InOwn : Arch → List Entry → ℕ → ℕ → Type 0
 InOwn arch entries h a = ((frame_in entries h).param + message_words arch (handler arch h).on ≤ a) × (a < (frame_in entries h).end)
 
+-- behind the last buffer of h
+abbrev pub buffers_end : Arch → List Entry → ℕ → ℕ
+buffers_end arch entries h = (frame_in entries h).first_buffer + length (handler arch h).emitters
+
 -- the buffer b is one of an emitter of h
 abbrev pub OwnBuffers : Arch → List Entry → ℕ → ℕ → Type 0
-OwnBuffers arch entries h b = ((frame_in entries h).first_buffer ≤ b) × (b < (frame_in entries h).first_buffer + length (handler arch h).emitters)
+OwnBuffers arch entries h b = ((frame_in entries h).first_buffer ≤ b) × (b < buffers_end arch entries h)
 
 -- the word a belongs to the frame of a handler behind h
 pub record InFrames (arch : Arch) (x : ℕ) (entries : List Entry) (h a : ℕ) : Type 0 where
@@ -54,7 +62,7 @@ pub record InBuffers (arch : Arch) (x : ℕ) (entries : List Entry) (h b : ℕ) 
   pub reached : Reaches arch x number
   pub follows : Behind arch h number
   pub from : (frame_in entries number).first_buffer ≤ b
-  pub before : b < (frame_in entries number).first_buffer + length (handler arch number).emitters
+  pub before : b < buffers_end arch entries number
 
 -- what the code of h may change: of its own frame only what stands behind its message
 abbrev pub Touched : Arch → ℕ → List Entry → ℕ → ℕ → Type 0
@@ -67,17 +75,27 @@ TouchedBuffers arch x entries h b = InBuffers arch x entries h b ⊎ OwnBuffers 
 pub record HasParts (arch : Arch) (h : ℕ) (f : Frame) : Type 0 where
   pub message : f.param + message_words arch (handler arch h).on ≤ f.temps
   pub counter : f.temps + 2 < f.end
-  pub scratch : (k : ℕ) (e : Emitter) → slice_get (handler arch h).emitters k ≡ Some e → (f.temps + 3 ≤ slice_index_or f.scratch k 0) × (slice_index_or f.scratch k 0 + emitter_words arch e ≤ f.end)
+  pub scratch : (k : ℕ) (e : Emitter) → slice_get (handler arch h).emitters k ≡ Some e
+      → (f.temps + 3 ≤ slice_index_or f.scratch k 0) × (slice_index_or f.scratch k 0 + emitter_words arch e ≤ f.end)
+
+-- what begins at a and ends before b, and what begins at c and ends before d, do not overlap
+abbrev pub AreApart : ℕ → ℕ → ℕ → ℕ → Type 0
+AreApart a b c d = (b ≤ c) ⊎ (d ≤ a)
+
+-- the buffer of an emitter, as the table has it
+abbrev pub buffer_for : Arch → Emitter → Buffer
+buffer_for arch e = record { width = emitter_words arch e; bound = e.bound }
 
 -- each handler that the task of source x reaches has a frame and buffers of its own
 pub record IsFramed (arch : Arch) (p : Program) (t : Task) (x : ℕ) (entries : List Entry) : Type 0 where
   pub parts : (h : ℕ) → Reaches arch x h → HasParts arch h (frame_in entries h)
   pub room : (h : ℕ) → Reaches arch x h → (frame_in entries h).end ≤ t.room
-  pub apart : (h k : ℕ) → Reaches arch x h → Reaches arch x k → h ≢ k → ((frame_in entries h).end ≤ (frame_in entries k).param) ⊎ ((frame_in entries k).end ≤ (frame_in entries h).param)
+  pub apart : (h k : ℕ) → Reaches arch x h → Reaches arch x k → h ≢ k
+      → AreApart (frame_in entries h).param (frame_in entries h).end (frame_in entries k).param (frame_in entries k).end
   pub buffers_apart : (h k : ℕ) → Reaches arch x h → Reaches arch x k → h ≢ k
-      → ((frame_in entries h).first_buffer + length (handler arch h).emitters ≤ (frame_in entries k).first_buffer) ⊎ ((frame_in entries k).first_buffer + length (handler arch k).emitters ≤ (frame_in entries h).first_buffer)
+      → AreApart (frame_in entries h).first_buffer (buffers_end arch entries h) (frame_in entries k).first_buffer (buffers_end arch entries k)
   pub tables : (h k : ℕ) (e : Emitter) → Reaches arch x h → slice_get (handler arch h).emitters k ≡ Some e
-      → slice_get t.buffers ((frame_in entries h).first_buffer + k) ≡ Some (record { width = emitter_words arch e; bound = e.bound })
+      → slice_get t.buffers ((frame_in entries h).first_buffer + k) ≡ Some (buffer_for arch e)
   pub outputs : (o : ℕ) → o < length arch.outputs → slice_index p.outputs o ≡ message_words arch (on.Channel (output arch o).channel)
   -- counts of messages are 64-bit numbers
   pub few : (b : ℕ) (s : Buffer) → slice_get t.buffers b ≡ Some s → s.bound + 1 < 2 ^ 64

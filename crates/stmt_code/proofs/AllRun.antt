@@ -12,7 +12,7 @@ use Rattle.stmt_code.specs.Layout.{Layout}
 use Rattle.stmt_code.specs.Body.{stmt_code, stmts_code}
 use Rattle.stmt_code.proofs.Needs.{room_one, room_of}
 use Rattle.stmt_code.proofs.Flats.{Fits}
-use Rattle.stmt_code.proofs.OneStep.{Code, stay}
+use Rattle.stmt_code.proofs.OneStep.{Context, stay}
 use Rattle.stmt_code.proofs.Ready.{Laid, Ready, kept_same}
 use Rattle.stmt_code.proofs.Keeps.{after_all}
 use Rattle.stmt_code.proofs.Ran.{list_at, Fill, Ran, ran_on, plain}
@@ -21,13 +21,13 @@ use Rattle.stmt_code.proofs.CopiesRun.{copy_runs}
 use Rattle.stmt_code.proofs.EmitsRun.{emit_runs}
 
 -- what is known of a task and a callback before any run
-pub record Plan (w : Layout) (lo hi : ℕ) (r : Code) (zeros : List Value) : Type 0 where
+pub record Plan (w : Layout) (lo hi : ℕ) (r : Context) (zeros : List Value) : Type 0 where
   pub laid : Laid w lo hi
   pub zero_is : (b : ℕ) → b < length w.scope.binders → slice_index_or zeros b (word (pos 0)) ≡ zero_of (shape_at w.scope.binders b)
   pub zero_fits : (b : ℕ) → b < length w.scope.binders → Fits (shape_at w.scope.binders b) (zero_of (shape_at w.scope.binders b))
   pub tables : (k : ℕ) → k < length w.scope.emitters → slice_get r.task.buffers (w.first_buffer + k) ≡ Some (record { width = words (shape_at w.scope.emitters k); bound = r.bound k })
 
-module _ (w : Layout) (lo hi : ℕ) (r : Code) (zeros : List Value) (pl : Plan w lo hi r zeros) where
+module _ (w : Layout) (lo hi : ℕ) (r : Context) (zeros : List Value) (pl : Plan w lo hi r zeros) where
   mutual
     pub stmt_runs : (s : Stmt) (sc : Names) → IsTypedStmt w.scope sc s → (x : Execution) (o : Own) (a : ℕ) (st : List ℤ) → Ready w hi sc x.env o → Fill w r x.lists o.buffers → ((k : ℕ) → k < length w.scope.emitters → length (list_at x.lists k) + most_of_stmt k s ≤ r.bound k) → Stands r.task.code a (stmt_code w a s) → length st + room_one s ≤ 64
         → Ran w lo hi r o (stmt_weight executed w.scope s) a (end a (stmt_code w a s)) st (names_after s sc) x.lists (after_stmt zeros s x) (λ k. most_of_stmt k s)

@@ -1,5 +1,5 @@
 -- Parts that are laid out one behind the other.
-use Rattle.std.proofs.Common.{◌≡◌, ℕ, zero, suc, ◌+◌, ◌<◌, ◌≤◌, List, [], ◌∷◌, length, map, arith, slice_index_or}
+use Rattle.std.proofs.Common.{ℕ, zero, suc, ◌+◌, ◌<◌, ◌≤◌, List, [], ◌∷◌, length, map, arith, slice_index_or}
 use Rattle.std.specs.Prelude.{sum}
 use Rattle.task_code.proofs.Lists.{cons_sum}
 use Rattle.tower_types.specs.Ty.{Shape, words}

@@ -26,7 +26,7 @@ use Rattle.task_code.specs.Does.{word_at, slot}
 use Rattle.task_code.specs.declared.frame.Frame.{Frame}
 use Rattle.task_code.specs.Piece.{ins, ◌▸◌, end, Stands}
 use Rattle.task_code.specs.declared.program.Instr.TheVariants.{Lock}
-use Rattle.task_code.specs.Leads as landed
+use Rattle.task_code.specs.Leads as task_leads
 use Rattle.tower_syntax.specs.declared.arch.Listener.TheVariants as to
 use Rattle.stmt_code.specs.Effects.{HasFrame, IsOwnWord, IsOwnBuffer, own_buffers}
 use Rattle.stmt_code.specs.Section.{cleared, bodies_code}
@@ -35,7 +35,7 @@ use Rattle.task_alone.specs.SettingOf.{numbers_from}
 use Rattle.task_code.specs.Formed.{HoldWords, IsFormedBuffer, IsFormed}
 use Rattle.task_code.proofs.Formed.{at_is}
 use Rattle.stmt_code.proofs.Roots.{IsSmallBody}
-use Rattle.stmt_code.proofs.OneStep.{Code, Leads, at}
+use Rattle.stmt_code.proofs.OneStep.{Context, Leads, at}
 use Rattle.stmt_code.proofs.Ran.{no_buffer, list_at, buffer_at, Holding, Fill}
 use Rattle.stmt_code.proofs.CallbacksRun.{plain_layout, Begun, Called, callbacks_run}
 
@@ -55,7 +55,7 @@ pub record Cleared (arch : Arch) (t : Task) (h : ℕ) (f : Frame) (a : ℕ) (mes
 -- before the UNLOCK of h, from o
 pub record BodiesRan (arch : Arch) (p : Program) (t : Task) (h : ℕ) (f : Frame) (a : ℕ) (message v : Value) (o : Own) : Type 0 where
   pub own : Own
-  pub leads : landed.Leads p t (bodies_weight executed arch (handler arch h)) o own
+  pub leads : task_leads.Leads p t (bodies_weight executed arch (handler arch h)) o own
   pub is_at : own.place ≡ end (bodies_at arch h f a) (bodies_code arch (handler arch h) f 0 (bodies_at arch h f a) (handler arch h).callbacks)
   pub calls : own.calls ≡ o.calls
   pub stack : own.stack ≡ []
@@ -113,7 +113,7 @@ module _ (arch : Arch) (p : Program) (t : Task) (h : ℕ) (f : Frame) (a0 : ℕ)
   abbrev hd : Handler
   hd = handler arch h
 
-  abbrev r : Code
+  abbrev r : Context
   r = record { program = p; task = t; bound = bound_of hd }
 
   abbrev sent_shape : Emitter → Shape

@@ -21,7 +21,7 @@ use Rattle.stmt_code.specs.Body.{stmts_code}
 use Rattle.stmt_code.specs.Section.{bodies_code}
 use Rattle.stmt_code.proofs.Roots.{IsSmallBody}
 use Rattle.stmt_code.proofs.Flats.{Fits}
-use Rattle.stmt_code.proofs.OneStep.{Code, Leads, at, stay, wider, on}
+use Rattle.stmt_code.proofs.OneStep.{Context, Leads, at, stay, wider, on}
 use Rattle.stmt_code.proofs.ExprsRun.{Holds}
 use Rattle.stmt_code.proofs.Ready.{Ready, Kept, kept_same, kept_on}
 use Rattle.stmt_code.proofs.Keeps.{all_message}
@@ -35,7 +35,7 @@ use Rattle.stmt_code.proofs.Plans.{planned}
 abbrev pub no_body : Body
 no_body = record { param = []; binders = []; stmts = no_stmts }
 
-module _ (arch : Arch) (h : ℕ) (f : Frame) (r : Code) (msg : Value) where
+module _ (arch : Arch) (h : ℕ) (f : Frame) (r : Context) (msg : Value) where
   abbrev hd : Handler
   hd = handler arch h
 

@@ -20,7 +20,7 @@ use Rattle.stmt_code.proofs.Named.{named}
 use Rattle.stmt_code.proofs.Needs.{need_steps}
 use Rattle.stmt_code.proofs.Flats.{Along, total, shape_along, flat_length, fields_of_list, get_fits, cut}
 use Rattle.stmt_code.proofs.Fitted.{path_along, path_ends, root_fits, place_fits}
-use Rattle.stmt_code.proofs.OneStep.{Code, Leads, at, stay, wider, on, store}
+use Rattle.stmt_code.proofs.OneStep.{Context, Leads, at, stay, wider, on, store}
 use Rattle.stmt_code.proofs.ExprsRun.{word_cut, drift, fixed_and_drift, top, Reads, plus_reads}
 use Rattle.stmt_code.proofs.ReadsRun.{root_reads}
 use Rattle.stmt_code.proofs.Stored.{wrote_one}
@@ -39,7 +39,7 @@ path_shape w sc (at_index e ss) (one s) t h = absurd h
 path_shape w sc (at_index e ss) (many n s) t h = path_shape w sc ss s t h.1
 path_shape w sc (at_index e ss) (all us) t h = absurd h
 
-module _ (w : Layout) (lo hi : ℕ) (laid : Laid w lo hi) (sc : Names) (env : Environment) (r : Code) (o : Own) (k : Ready w hi sc env o) where
+module _ (w : Layout) (lo hi : ℕ) (laid : Laid w lo hi) (sc : Names) (env : Environment) (r : Context) (o : Own) (k : Ready w hi sc env o) where
   -- the words of a place's value
   pub place_reads : (x : Root) (ss : Steps) (t : Shape) → HasShape w.scope sc (place x ss) t → (i : ℕ) → i < words t → Reads o (plus (root_base w x) (fixed_offset (root_shape w.scope x) ss)) (drift env (root_shape w.scope x) ss + i) (word_at (flat (place_value env (place x ss))) i)
   place_reads x ss t h i lt =
@@ -149,7 +149,7 @@ module _ (w : Layout) (lo hi : ℕ) (laid : Laid w lo hi) (sc : Names) (env : En
   temp_apart (root.Binder b) ss t h wr i d u de lt le = λ eq. absurd (omega (arith, de, eq, place_within w lo hi laid sc env r o k (root.Binder b) ss t h, laid.before_temps b h.0.0))
   temp_apart (root.State b) ss t h wr i d u de lt le = tt
 
-module _ (w : Layout) (lo hi : ℕ) (laid : Laid w lo hi) (r : Code) (zeros : List Value) where
+module _ (w : Layout) (lo hi : ℕ) (laid : Laid w lo hi) (r : Context) (zeros : List Value) where
   pub copy_runs : (x y : Root) (ss ts : Steps) (sc : Names) (run : Execution) (o : Own) (a : ℕ) (st : List ℤ) → IsTypedStmt w.scope sc (copy (place x ss) (place y ts)) → Ready w hi sc run.env o → Fill w r run.lists o.buffers → Stands r.task.code a (stmt_code w a (copy (place x ss) (place y ts))) → length st + (max (need_steps false ss) (need_steps false ts) + 4) ≤ 64
       → Ran w lo hi r o (stmt_weight executed w.scope (copy (place x ss) (place y ts))) a (end a (stmt_code w a (copy (place x ss) (place y ts)))) st sc run.lists (after_stmt zeros (copy (place x ss) (place y ts)) run) (λ k. 0)
   copy_runs x y ss ts sc run o a st f rd fl p len =

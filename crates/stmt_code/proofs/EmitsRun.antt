@@ -1,8 +1,11 @@
 -- Sending a message into a buffer.
 use Rattle.std.proofs.Common.{◌≡◌, ◌≢◌, ℕ, zero, suc, ◌+◌, ◌-◌, ◌*◌, ◌<◌, ◌≤◌, ℤ, pos, List, [], ◌∷◌, ◌++◌, length, refl, ap, sym, ◌∙◌, subst, arith, Bool, true, false, Some, slice_get, slice_set, slice_index_or, ◌⊎◌, inl, inr, get_or-set_same, get_or-set_other, length-set, length-append}
 use Rattle.std.proofs.lemmas.Bool.{cases_eq, cases_lt, eq-eqb}
-use Rattle.std.proofs.lemmas.List.{get_or-append-add, ext_get_or}
-use Rattle.std.proofs.lemmas.Option.{slice_get-get_or}
+use Rattle.std.proofs.lemmas.List.{get_or-append-add}
+use Rattle.std.proofs.lemmas.Option.{slice_get-get_or, get_or_from_slice_get, slice_get_within}
+use Rattle.task_code.specs.Formed.{IsFormedBuffer}
+use Rattle.task_code.specs.Emitting.{with_message}
+use Rattle.task_code.proofs.Emissions.{emission_leads}
 use Rattle.std.proofs.Math.ListN.{get_or-append}
 use Rattle.tower_types.specs.declared.scalar.Scalar.{Scalar}
 use Rattle.tower_types.specs.Ty.{Shape, one, many, all, words}
@@ -13,132 +16,67 @@ use Rattle.tower_syntax.specs.Tree.{Expr, lit, read, un, bin, choose, cast, Plac
 use Rattle.tower_syntax.specs.Weights.{root_shape, shape_at, executed, expr_weight, place_weight, steps_weight, moved_weight, stmt_weight, most_of_stmt}
 use Rattle.tower_syntax.specs.Typed.{Names, HasScalar, HasShape, IsTypedStmt}
 use Rattle.tower_meaning.specs.Body.{Environment, Execution, expr_value, place_value, emitted}
-use Rattle.task_code.specs.declared.program.Buffer.{Buffer}
-use Rattle.task_code.specs.declared.program.Instr.TheVariants.{St, Badd}
+use Rattle.task_code.specs.declared.program.Instr.TheVariants.{St}
 use Rattle.task_code.specs.Own.{Own, Filled}
-use Rattle.task_code.specs.Does.{word_at, slot, with_word, with_count}
+use Rattle.task_code.specs.Does.{word_at, slot}
 use Rattle.task_code.specs.Piece.{Piece, ins, ◌▸◌, end, Stands}
 use Rattle.stmt_code.specs.Layout.{Layout, scratch_at, root_base, fixed_offset, moves, Base, private, monitor, plus}
 use Rattle.stmt_code.specs.Body.{kept, index_code, words_copied, message_of, moved_to, place_emitted, expr_code, stmt_code}
-use Rattle.task_code.specs.Emission.{words_put, emission}
+use Rattle.task_code.specs.Emission.{emission}
 use Rattle.stmt_code.proofs.Needs.{need, need_steps, need_sent}
 use Rattle.stmt_code.proofs.Flats.{Fits, flat_length}
 use Rattle.stmt_code.proofs.Fitted.{expr_fits, place_fits, word_is}
-use Rattle.stmt_code.proofs.OneStep.{Code, Leads, at, stay, wider, on, push, ld, store, bput, badd}
-use Rattle.stmt_code.proofs.ExprsRun.{Holds, drift, Reads, restack}
+use Rattle.stmt_code.proofs.OneStep.{Context, Leads, at, stay, wider, on, store}
+use Rattle.stmt_code.proofs.ExprsRun.{Holds, drift, Reads}
 use Rattle.stmt_code.proofs.ReadsRun.{expr_leads}
-use Rattle.stmt_code.proofs.Stored.{Wrote, wrote_one, wrote_none, wrote_next}
+use Rattle.stmt_code.proofs.Stored.{Wrote, wrote_one}
 use Rattle.stmt_code.proofs.Ready.{Laid, Ready, Kept, kept_same, kept_on, known, temp_ready, wrote_kept}
 use Rattle.stmt_code.proofs.PlacesRun.{place_leads, place_within, still}
 use Rattle.stmt_code.proofs.MovesRun.{Index, Differ, Moves, source, moved_leads}
 use Rattle.stmt_code.proofs.CopiesRun.{place_reads, saved_leads}
 use Rattle.stmt_code.proofs.Ran.{no_buffer, list_at, buffer_at, Holding, Fill, Others, Ran}
 
--- words are put into the slot behind the last message
-pub record Put (f : Filled) (j : ℕ) (xs : List ℤ) (f' : Filled) : Type 0 where
-  pub count : f'.count ≡ f.count
-  pub size : length f'.slots ≡ length f.slots
-  pub other : (i : ℕ) → i ≢ f.count → slot f' i ≡ slot f i
-  pub wrote : Wrote (slot f f.count) j xs (slot f' f.count)
-
-put_none : (f : Filled) (j : ℕ) → Put f j [] f
-put_none f j = record { count = refl; size = refl; other = λ i ne. refl; wrote = wrote_none (slot f f.count) j }
-
-put_one : (f : Filled) (j : ℕ) (v : ℤ) → f.count < length f.slots → j < length (slot f f.count) → Put f j (v ∷ []) (with_word f f.count j v)
-put_one f j v lt lj =
-    let ws = slice_set (slot f f.count) j v in
-    record {
-      count = refl;
-      size = length-set f.slots f.count ws;
-      other = λ i ne. get_or-set_other f.slots f.count i ws [] ne;
-      wrote = subst (λ l. Wrote (slot f f.count) j (v ∷ []) l) (sym (get_or-set_same f.slots f.count ws [] lt)) (wrote_one (slot f f.count) j v lj);
-    }
-
-put_next : (f f1 f2 : Filled) (j : ℕ) (v : ℤ) (xs : List ℤ) → Put f j (v ∷ []) f1 → Put f1 (suc j) xs f2 → Put f j (v ∷ xs) f2
-put_next f f1 f2 j v xs p q =
-    record {
-      count = q.count ∙ p.count;
-      size = q.size ∙ p.size;
-      other = λ i ne. q.other i (λ e. ne (e ∙ p.count)) ∙ p.other i ne;
-      wrote = wrote_next (slot f f.count) j v xs (slot f1 f.count) (slot f2 f.count) p.wrote (subst (λ n. Wrote (slot f1 n) (suc j) xs (slot f2 n)) p.count q.wrote);
-    }
-
-wrote_whole : (ws xs ws' : List ℤ) → length xs ≡ length ws → Wrote ws 0 xs ws' → ws' ≡ xs
-wrote_whole ws xs ws' e w = ext_get_or (pos 0) ws' xs (w.size ∙ sym e) (λ i lt. let z : 0 + i ≡ i = omega arith in ap (word_at ws') (sym z) ∙ w.inside i (omega (arith, w.size, e)))
-
 pub has_at : (bs : List Filled) (b : ℕ) → b < length bs → slice_get bs b ≡ Some (buffer_at bs b)
 has_at bs b lt = slice_get-get_or bs b no_buffer lt
 
-record Puts (r : Code) (o : Own) (b n j a z : ℕ) (st xs : List ℤ) (bs : List Filled) : Type 0 where
-  to : List Filled
-  leads : Leads r n (at (record o { buffers = bs }) a st) (at (record o { buffers = to }) z st)
-  size : length to ≡ length bs
-  others : (c : ℕ) → c ≢ b → buffer_at to c ≡ buffer_at bs c
-  put : Put (buffer_at bs b) j xs (buffer_at to b)
-
--- three instructions for each word
-module _ (r : Code) (o : Own) (from b : ℕ) (s : Buffer) (is : slice_get r.task.buffers b ≡ Some s) where
-  puts_leads : (xs : List ℤ) (bs : List Filled) (j a : ℕ) (st : List ℤ) → b < length bs → (buffer_at bs b).count < s.bound → (buffer_at bs b).count < length (buffer_at bs b).slots
-      → j + length xs ≤ s.width → j + length xs ≤ length (slot (buffer_at bs b) (buffer_at bs b).count)
-      → ((i : ℕ) → i < length xs → word_at o.words (from + (j + i)) ≡ word_at xs i)
-      → Stands r.task.code a (words_put from b j (length xs)) → length st + 2 ≤ 64
-      → Puts r o b (3 * length xs) j a (end a (words_put from b j (length xs))) st xs bs
-  puts_leads [] bs j a st lb lc ls lw lt rd p len = record { to = bs; leads = wider r 0 (3 * 0) _ _ (stay r _) (omega arith); size = refl; others = λ c ne. refl; put = put_none (buffer_at bs b) j }
-  puts_leads (x ∷ xs) bs j a st lb lc ls lw lt rd p len =
-      let f = buffer_at bs b in
-      let u : Own = record o { buffers = bs } in
-      let f1 = with_word f f.count j x in
-      let bs1 = slice_set bs b f1 in
-      let at_b : buffer_at bs1 b ≡ f1 = get_or-set_same bs b f1 no_buffer lb in
-      let one' = put_one f j x ls (omega arith) in
-      let z : from + (j + 0) ≡ from + j = omega arith in
-      let here : word_at o.words (from + j) ≡ x = ap (word_at o.words) (sym z) ∙ rd 0 (omega arith) in
-      let value = restack r u 1 _ (suc (suc a)) (word_at o.words (from + j) ∷ pos j ∷ st) (x ∷ pos j ∷ st) (ap (λ v. v ∷ pos j ∷ st) here) (ld r u (suc a) (pos j ∷ st) (from + j) p.1.0 (omega arith)) in
-      let slot1 : length (slot f1 f.count) ≡ length (slot f f.count) = one'.wrote.size in
-      let count1 : (buffer_at bs1 b).count ≡ f.count = ap (λ y. y.count) at_b in
-      let slots1 : length (buffer_at bs1 b).slots ≡ length f.slots = ap (λ y. length y.slots) at_b ∙ one'.size in
-      let slot2 : length (slot (buffer_at bs1 b) (buffer_at bs1 b).count) ≡ length (slot f f.count) = ap (λ y. length (slot y y.count)) at_b ∙ slot1 in
-      let size1 : length bs1 ≡ length bs = length-set bs b f1 in
-      let rest = puts_leads xs bs1 (suc j) _ st (omega (arith, size1)) (omega (arith, count1)) (omega (arith, count1, slots1)) (omega arith) (omega (arith, slot2))
-      (λ i lt. let s : from + (j + suc i) ≡ from + (suc j + i) = omega arith in subst (λ k. word_at o.words k ≡ word_at xs i) s (rd (suc i) (omega arith))) p.1.1.1 len in
-      record {
-        to = rest.to;
-        leads = wider r (1 + (1 + (1 + 3 * length xs))) _ _ _
-            (on r 1 (1 + (1 + 3 * length xs)) _ _ _ (push r u a st (pos j) p.0 (omega arith))
-            (on r 1 (1 + 3 * length xs) _ _ _ value
-            (on r 1 (3 * length xs) _ _ _ (bput r u (suc (suc a)) st b s f is (has_at bs b lb) j x p.1.1.0 lc (omega arith)) rest.leads))) (omega arith);
-        size = rest.size ∙ size1;
-        others = λ c ne. rest.others c ne ∙ get_or-set_other bs b c f1 no_buffer ne;
-        put = put_next f f1 (buffer_at rest.to b) j x xs one' (subst (λ y. Put y (suc j) xs (buffer_at rest.to b)) at_b rest.put);
-      }
+-- a buffer that holds messages has the form of the table
+formed_buffer : (width limit : ℕ) (l : List Value) (f : Filled) → Holding width limit l f → IsFormedBuffer (record { width = width; bound = limit }) f
+formed_buffer width limit l f h = record {
+  slots = h.slots;
+  few = let q1 = h.count in let q2 = h.few in omega (arith, q1, q2);
+  wide = λ k ws get. let long = h.slots in let lt = slice_get_within f.slots k ws get in ap (λ (y : List ℤ). length y) (sym (get_or_from_slice_get f.slots k ws [] get)) ∙ h.wide k (omega (arith, lt, long));
+}
 
 -- a message more
-held_more : (width limit : ℕ) (l : List Value) (v : Value) (f f1 f2 : Filled) → Holding width limit l f → length l < limit → length (flat v) ≡ width → Put f 0 (flat v) f1 → f2 ≡ with_count f1 (suc f1.count) → Holding width limit (l ++ v ∷ []) f2
-held_more width limit l v f f1 f2 h lt len p e = subst (λ y. Holding width limit (l ++ v ∷ []) y) (sym e) done
+held_more : (width limit : ℕ) (l : List Value) (v : Value) (f : Filled) → Holding width limit l f → length l < limit → length (flat v) ≡ width → Holding width limit (l ++ v ∷ []) (with_message f (flat v))
+held_more width limit l v f h lt len = record {
+  count = omega (arith, h.count, length-append l (v ∷ []));
+  few = omega (arith, lt, length-append l (v ∷ []));
+  slots = length-set f.slots f.count (flat v) ∙ h.slots;
+  wide = λ i l. wide i l (cases_eq i f.count);
+  words = λ i m. each i (omega (arith, length-append l (v ∷ []))) (cases_lt i (length l));
+}
   where
-    here : slot f1 f.count ≡ flat v
-    here = wrote_whole (slot f f.count) (flat v) (slot f1 f.count) (len ∙ sym (h.wide f.count (omega (arith, h.count)))) p.wrote
+    f' : Filled
+    f' = with_message f (flat v)
 
-    wide : (i : ℕ) → i < limit → (i ≡ f.count) ⊎ (i ≢ f.count) → length (slot f1 i) ≡ width
-    wide i l (inl q) = ap (λ k. length (slot f1 k)) q ∙ ap (λ x. length x) here ∙ len
-    wide i l (inr ne) = ap (λ x. length x) (p.other i ne) ∙ h.wide i l
+    here : slot f' f.count ≡ flat v
+    here = get_or-set_same f.slots f.count (flat v) [] (omega (arith, h.count, h.slots))
 
-    each : (i : ℕ) → i < length l + 1 → (i < length l) ⊎ (length l ≤ i) → slot f1 i ≡ flat (slice_index_or (l ++ v ∷ []) i (word (pos 0)))
+    other : (i : ℕ) → i ≢ f.count → slot f' i ≡ slot f i
+    other i ne = get_or-set_other f.slots f.count i (flat v) [] ne
+
+    wide : (i : ℕ) → i < limit → (i ≡ f.count) ⊎ (i ≢ f.count) → length (slot f' i) ≡ width
+    wide i l (inl q) = ap (λ k. length (slot f' k)) q ∙ ap (λ x. length x) here ∙ len
+    wide i l (inr ne) = ap (λ x. length x) (other i ne) ∙ h.wide i l
+
+    each : (i : ℕ) → i < length l + 1 → (i < length l) ⊎ (length l ≤ i) → slot f' i ≡ flat (slice_index_or (l ++ v ∷ []) i (word (pos 0)))
     each i m (inl lt) =
-        p.other i (λ e. absurd (omega (arith, e, h.count))) ∙ h.words i lt ∙ ap flat (sym (get_or-append l (v ∷ []) (word (pos 0)) i lt))
+        other i (λ e. absurd (omega (arith, e, h.count))) ∙ h.words i lt ∙ ap flat (sym (get_or-append l (v ∷ []) (word (pos 0)) i lt))
     each i m (inr g) =
         let at_end : i ≡ length l + 0 = omega arith in
         let at_count : i ≡ f.count = omega (arith, h.count) in
-        ap (λ k. slot f1 k) at_count ∙ here ∙ ap flat (sym (ap (λ k. slice_index_or (l ++ v ∷ []) k (word (pos 0))) at_end ∙ get_or-append-add l (v ∷ []) 0 (word (pos 0))))
-
-    done : Holding width limit (l ++ v ∷ []) (with_count f1 (suc f1.count))
-    done = record {
-      count = omega (arith, p.count, h.count, length-append l (v ∷ []));
-      few = omega (arith, lt, length-append l (v ∷ []));
-      slots = omega (arith, p.size, h.slots);
-      wide = λ i l. wide i l (cases_eq i f.count);
-      words = λ i m. each i (omega (arith, length-append l (v ∷ []))) (cases_lt i (length l));
-    }
+        ap (λ k. slot f' k) at_count ∙ here ∙ ap flat (sym (ap (λ k. slice_index_or (l ++ v ∷ []) k (word (pos 0))) at_end ∙ get_or-append-add l (v ∷ []) 0 (word (pos 0))))
 
 ready_buffers : (w : Layout) (hi : ℕ) (sc : Names) (env : Environment) (o : Own) (bs : List Filled) → Ready w hi sc env o → Ready w hi sc env (record o { buffers = bs })
 ready_buffers w hi sc env o bs k = record { fit = k.fit; shows = record { message = k.shows.message; binders = k.shows.binders; held = k.shows.held }; room = k.room }
@@ -146,35 +84,34 @@ ready_buffers w hi sc env o bs k = record { fit = k.fit; shows = record { messag
 one_at : (k : ℕ) (e : Expr) → most_of_stmt k (emit k e) ≡ 1
 one_at k e = ap (λ (g : Bool). elim g [ true ↦ suc zero | false ↦ zero ]) (eq-eqb k k refl)
 
-module _ (w : Layout) (lo hi : ℕ) (laid : Laid w lo hi) (r : Code)
+module _ (w : Layout) (lo hi : ℕ) (laid : Laid w lo hi) (r : Context)
     (tables : (k : ℕ) → k < length w.scope.emitters → slice_get r.task.buffers (w.first_buffer + k) ≡ Some (record { width = words (shape_at w.scope.emitters k); bound = r.bound k }))
   where
-    -- the count grows
+    -- the buffer of emitter k, and the list beside it, have a message more
     sent_runs : (k : ℕ) (x : Expr) (v : Value) (sc : Names) (run : Execution) (o own : Own) (m n a a1 z : ℕ) (st : List ℤ) → k < length w.scope.emitters → Fits (shape_at w.scope.emitters k) v → Fill w r run.lists o.buffers → length (list_at run.lists k) + most_of_stmt k (emit k x) ≤ r.bound k
         → Leads r m (at o a st) (at own a1 st) → Ready w hi sc run.env own → Kept lo hi o own → own.buffers ≡ o.buffers
-        → Puts r own (w.first_buffer + k) n 0 a1 z st (flat v) own.buffers → Stands r.task.code z (ins (Badd (w.first_buffer + k)))
-        → Ran w lo hi r o (m + (n + 1)) a (suc z) st sc run.lists (emitted k v run) (λ j. most_of_stmt j (emit k x))
-    sent_runs k x v sc run o own m n a a1 z st lt fv fl fit front rd kept same p add =
+        → Leads r n (at own a1 st) (at (record own { buffers = slice_set own.buffers (w.first_buffer + k) (with_message (buffer_at own.buffers (w.first_buffer + k)) (flat v)) }) z st)
+        → Ran w lo hi r o (m + n) a z st sc run.lists (emitted k v run) (λ j. most_of_stmt j (emit k x))
+    sent_runs k x v sc run o own m n a a1 z st lt fv fl fit front rd kept same behind =
         let b = w.first_buffer + k in
         let fo = subst (λ bs. Fill w r run.lists bs) (sym same) fl in
-        let hold = fo.each k lt in
-        let f1 = buffer_at p.to b in
+        let f = buffer_at own.buffers b in
+        let f' = with_message f (flat v) in
         let few : length (list_at run.lists k) < r.bound k = omega (arith, fit, one_at k x) in
-        let counted : f1.count ≡ length (list_at run.lists k) = p.put.count ∙ hold.count in
-        let bs = slice_set p.to b (with_count f1 (suc f1.count)) in
-        let size : length bs ≡ length own.buffers = length-set p.to b (with_count f1 (suc f1.count)) ∙ p.size in
-        let this : buffer_at bs b ≡ with_count f1 (suc f1.count) = get_or-set_same p.to b (with_count f1 (suc f1.count)) no_buffer (omega (arith, p.size, fo.within)) in
-        let other = λ (c : ℕ) (ne : c ≢ b). get_or-set_other p.to b c (with_count f1 (suc f1.count)) no_buffer ne ∙ p.others c ne in
+        let bs = slice_set own.buffers b f' in
+        let size : length bs ≡ length own.buffers = length-set own.buffers b f' in
+        let this : buffer_at bs b ≡ f' = get_or-set_same own.buffers b f' no_buffer (omega (arith, fo.within)) in
+        let other = λ (c : ℕ) (ne : c ≢ b). get_or-set_other own.buffers b c f' no_buffer ne in
         let l = list_at run.lists k in
         let lists' = slice_set run.lists k (l ++ v ∷ []) in
         let len_v : length (flat v) ≡ words (shape_at w.scope.emitters k) = flat_length (shape_at w.scope.emitters k) v fv in
         let k_in : k < length run.lists = omega (arith, lt, fo.listed) in
         let this_list : list_at lists' k ≡ l ++ v ∷ [] = get_or-set_same run.lists k (l ++ v ∷ []) [] k_in in
         let other_list = λ (j : ℕ) (ne : j ≢ k). get_or-set_other run.lists k j (l ++ v ∷ []) [] ne in
-        let more = held_more (words (shape_at w.scope.emitters k)) (r.bound k) l v (buffer_at own.buffers b) f1 (buffer_at bs b) hold few len_v p.put this in
+        let more = subst (λ y. Holding (words (shape_at w.scope.emitters k)) (r.bound k) (l ++ v ∷ []) y) (sym this) (held_more (words (shape_at w.scope.emitters k)) (r.bound k) l v f (fo.each k lt) few len_v) in
         record {
           own = record own { buffers = bs };
-          leads = on r m (n + 1) _ _ _ front (on r n 1 _ _ _ p.leads (badd r (record own { buffers = p.to }) z st b (record { width = words (shape_at w.scope.emitters k); bound = r.bound k }) f1 (tables k lt) (has_at p.to b (omega (arith, p.size, fo.within, lt))) add (omega (arith, counted, few))));
+          leads = on r m n _ _ _ front behind;
           ready = ready_buffers w hi sc run.env own bs rd;
           kept = record { calls = kept.calls; size = kept.size; words = kept.words };
           fill = record {
@@ -213,17 +150,13 @@ module _ (w : Layout) (lo hi : ℕ) (laid : Laid w lo hi) (r : Code)
         let n = words (shape_at w.scope.emitters k) in
         let fo = subst (λ bs. Fill w r run.lists bs) (sym same) fl in
         let hold = fo.each k lt in
-        let one' = one_at k x in
         let lv : length (flat v) ≡ n = flat_length (shape_at w.scope.emitters k) v fv in
-        let few : length (list_at run.lists k) < r.bound k = omega (arith, fit, one') in
-        let count' : (buffer_at own.buffers b).count < r.bound k = let q = hold.count in omega (arith, q, few) in
-        let wide = hold.wide (buffer_at own.buffers b).count count' in
+        let count' : (buffer_at own.buffers b).count < r.bound k = let q = hold.count in omega (arith, q, fit, one_at k x) in
         let there : b < length own.buffers = let q = fo.within in omega (arith, q, lt) in
-        let room : (buffer_at own.buffers b).count < length (buffer_at own.buffers b).slots = let q = hold.slots in omega (arith, q, count') in
-        let put = puts_leads r own from b (record { width = n; bound = r.bound k }) (tables k lt) (flat v) own.buffers 0 a1 st there count' room (omega (arith, lv)) (omega (arith, lv, wide))
-        (λ i l. let z : from + i ≡ from + (0 + i) = omega arith in subst (λ j. word_at own.words j ≡ word_at (flat v) i) z (holds i l)) in
-        let puts = subst (λ c. Stands r.task.code a1 (words_put from b 0 c) → Puts r own b (3 * length (flat v)) 0 a1 (end a1 (words_put from b 0 c)) st (flat v) own.buffers) lv (λ q. put q len) p.0 in
-        sent_runs k x v sc run o own m (3 * length (flat v)) a a1 _ st lt fv fl fit front rd kept same puts p.1
+        let leads = emission_leads r.program r.task from b (record { width = n; bound = r.bound k }) (tables k lt) (flat v) (at own a1 st) (buffer_at own.buffers b) (has_at own.buffers b there)
+        (formed_buffer n (r.bound k) (list_at run.lists k) (buffer_at own.buffers b) hold) count' (sym lv) (λ i l. holds i l) len (subst (λ c. Stands r.task.code a1 (emission from b c)) (sym lv) p) in
+        sent_runs k x v sc run o own m (3 * length (flat v) + 1) a a1 (end a1 (emission from b n)) st lt fv fl fit front rd kept same
+        (subst (λ c. Leads r (3 * length (flat v) + 1) (at own a1 st) (at (record own { buffers = slice_set own.buffers b (with_message (buffer_at own.buffers b) (flat v)) }) (end a1 (emission from b c)) st)) lv leads)
 
 -- ---- the words of a message come to stand in private words
 
@@ -232,7 +165,7 @@ abbrev Below : ℕ → Base → ℕ → ℕ → Type 0
 Below temps (private a) e n = a + e + n ≤ temps
 Below temps (monitor m a) e n = Unit {0}
 
-record Prepared (w : Layout) (lo hi : ℕ) (sc : Names) (env : Environment) (r : Code) (o : Own) (k a z : ℕ) (st xs : List ℤ) : Type 0 where
+record Prepared (w : Layout) (lo hi : ℕ) (sc : Names) (env : Environment) (r : Context) (o : Own) (k a z : ℕ) (st xs : List ℤ) : Type 0 where
   to : List ℤ
   from : ℕ
   place : ℕ
@@ -243,7 +176,7 @@ record Prepared (w : Layout) (lo hi : ℕ) (sc : Names) (env : Environment) (r :
   stands : Stands r.task.code place (emission from (w.first_buffer + k) (words (shape_at w.scope.emitters k)))
   ends : end place (emission from (w.first_buffer + k) (words (shape_at w.scope.emitters k))) ≡ z
 
-module _ (w : Layout) (lo hi : ℕ) (laid : Laid w lo hi) (sc : Names) (env : Environment) (r : Code) (o : Own) (rd : Ready w hi sc env o) (k : ℕ) (lt : k < length w.scope.emitters) where
+module _ (w : Layout) (lo hi : ℕ) (laid : Laid w lo hi) (sc : Names) (env : Environment) (r : Context) (o : Own) (rd : Ready w hi sc env o) (k : ℕ) (lt : k < length w.scope.emitters) where
   differs : (n : ℕ) (c : Base) (e i j : ℕ) → Below w.temps c e n → j < n → Differ (private (scratch_at w k)) (0 + 0 + i) c (e + 0 + j)
   differs n (private y) e i j below l = λ q. let h = laid.behind_temps k lt in absurd (omega (arith, q, h, below, l))
   differs n (monitor m y) e i j below l = tt
@@ -304,7 +237,7 @@ sent_weight (one s) p = omega arith
 sent_weight (many n s) p = omega arith
 sent_weight (all ss) p = omega arith
 
-module _ (w : Layout) (lo hi : ℕ) (laid : Laid w lo hi) (r : Code)
+module _ (w : Layout) (lo hi : ℕ) (laid : Laid w lo hi) (r : Context)
     (tables : (k : ℕ) → k < length w.scope.emitters → slice_get r.task.buffers (w.first_buffer + k) ≡ Some (record { width = words (shape_at w.scope.emitters k); bound = r.bound k }))
   where
     abbrev Emitted : ℕ → Expr → Names → Execution → Own → ℕ → List ℤ → Type 0

@@ -24,7 +24,7 @@ use Rattle.stmt_code.proofs.Named.{named}
 use Rattle.stmt_code.proofs.Needs.{one_if}
 use Rattle.stmt_code.proofs.Flats.{total, Cut}
 use Rattle.stmt_code.proofs.WordSums.{u64_fits, u64_mul, u64_add}
-use Rattle.stmt_code.proofs.OneStep.{Code, Leads, at, stay, wider, on, push, ld, ldx, ldm, bin as bin_leads}
+use Rattle.stmt_code.proofs.OneStep.{Context, Leads, at, stay, wider, on, push, ld, ldx, ldm, bin as bin_leads}
 
 -- ---- words in lists
 
@@ -139,7 +139,7 @@ pub plus_reads : (o : Own) (b : Base) (c d : ℕ) (v : ℤ) → Reads o b (c + d
 plus_reads o (private a) c d v h = let e : a + (c + d) ≡ a + c + d = omega arith in subst (λ n. word_at o.words n ≡ v) e h
 plus_reads o (monitor m a) c d v h = let e : a + (c + d) ≡ a + c + d = omega arith in (h.0, h.1, subst (λ n. word_at h.0 n ≡ v) e h.2)
 
-module _ (r : Code) (o : Own) where
+module _ (r : Context) (o : Own) where
   pub restack : (n : ℕ) (t : Own) (a : ℕ) (st st' : List ℤ) → st ≡ st' → Leads r n t (at o a st) → Leads r n t (at o a st')
   restack n t a st st' e l = subst (λ s. Leads r n t (at o a s)) e l
 

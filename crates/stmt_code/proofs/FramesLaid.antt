@@ -1,14 +1,13 @@
 -- The parts of a frame lie one behind the other, and are no more than the weight.
-use Rattle.std.proofs.Common.{◌≡◌, ◌∙◌, ℕ, zero, suc, ◌+◌, ◌*◌, ◌≤◌, List, [], ◌∷◌, ◌++◌, length, map, refl, ap, ap₂, subst, arith}
+use Rattle.std.proofs.Common.{◌≡◌, ◌∙◌, ℕ, suc, ◌+◌, ◌*◌, ◌≤◌, List, [], ◌∷◌, ◌++◌, length, map, refl, ap, ap₂, subst, arith}
 use Rattle.std.specs.Prelude.{sum}
 use Rattle.std.proofs.lemmas.List.{length-map}
 use Rattle.tower_types.specs.Ty.{Fields, shape_in, table_of, words}
 use Rattle.tower_syntax.specs.Arch.{Arch, Emitter, Body}
 use Rattle.tower_syntax.specs.Graph.{handler}
 use Rattle.tower_syntax.specs.Weights.{emitter_words, message_words, field_shapes}
-use Rattle.task_code.specs.declared.frame.Frame.{Frame}
 use Rattle.task_code.proofs.Lists.{cons_sum}
-use Rattle.stmt_code.specs.FrameOf.{laid, binder_words, binders_laid, binders_of, frame_of}
+use Rattle.stmt_code.specs.FrameOf.{laid, binder_words, binders_laid, binders_of}
 use Rattle.stmt_code.specs.FrameParts.{zipped, names_parts, Consecutive, FramesAreLaidOut}
 
 laid_many : (ns : List ℕ) (a : ℕ) → length (laid a ns) ≡ length ns

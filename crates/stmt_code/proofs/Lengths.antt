@@ -1,9 +1,9 @@
 -- How long code is: no longer than its weight as it stands.
-use Rattle.std.proofs.Common.{◌≡◌, ℕ, zero, suc, ◌+◌, ◌-◌, ◌*◌, ◌≤◌, length, Option, Some, None, refl, arith, Bool, true, false, ◌||◌, ◌∙◌, length-append}
+use Rattle.std.proofs.Common.{ℕ, zero, suc, ◌+◌, ◌-◌, ◌*◌, ◌≤◌, length, Option, Some, None, arith, Bool, true, false, ◌||◌}
 use Rattle.tower_types.specs.Ty.{Shape, one, many, all, words}
 use Rattle.tower_syntax.specs.Tree.{Expr, lit, read, un, bin, choose, cast, Place, place, Steps, no_steps, field, at, Stmt, bind, local, set, copy, branch, loop, emit, Stmts, no_stmts, stmt}
 use Rattle.tower_syntax.specs.Weights.{root_shape, shape_at, place_shape, field_shape, element_shape, standing, expr_weight, place_weight, steps_weight, moved_weight, move, stmt_weight, stmts_weight}
-use Rattle.task_code.specs.Piece.{Piece, nil, ins, ◌▸◌, end, listed}
+use Rattle.task_code.specs.Piece.{Piece, ◌▸◌, end, listed}
 use Rattle.stmt_code.specs.Layout.{Layout, binder_at, root_base, fixed_offset, moves, given_index, is_moving, Base, private, monitor, plus}
 use Rattle.stmt_code.specs.Body.{read_word, before_value, behind_value, scaled, added, if_moving, kept, index_from, word_read, words_copied, SentMessage, message_of, moved_to, place_emitted, zeroed, expr_code, steps_code, emit_code, stmt_code, stmts_code}
 use Rattle.task_code.specs.Emission.{emission}
@@ -165,4 +165,3 @@ module _ (w : Layout) where
 -- how many instructions there are
 pub stmts_length : (w : Layout) (a : ℕ) (ss : Stmts) → length (listed (stmts_code w a ss)) ≤ stmts_weight standing w.scope ss
 stmts_length w a ss = let q1 = size_is (stmts_code w a ss) in let q2 = stmts_size w ss a in omega (arith, q1, q2)
-

@@ -6,7 +6,7 @@ use Rattle.task_code.specs.Does.{word_at}
 use Rattle.task_code.specs.Piece.{end, Stands}
 use Rattle.stmt_code.specs.Layout.{Base, private, monitor, plus}
 use Rattle.stmt_code.specs.Body.{Moved, index_from, word_read, words_copied}
-use Rattle.stmt_code.proofs.OneStep.{Code, Leads, at, stay, wider, on, ld}
+use Rattle.stmt_code.proofs.OneStep.{Context, Leads, at, stay, wider, on, ld}
 use Rattle.stmt_code.proofs.ExprsRun.{top, Reads, plus_reads, restack, word_leads}
 use Rattle.stmt_code.proofs.Stored.{Wrote, wrote_none, wrote_next}
 use Rattle.stmt_code.proofs.PlacesRun.{WroteAt, Holder, HasRoom, slot_top, first_leads, last_leads}
@@ -15,7 +15,7 @@ use Rattle.stmt_code.proofs.PlacesRun.{WroteAt, Holder, HasRoom, slot_top, first
 abbrev pub Index : Own → Bool → ℕ → ℕ → Type 0
 Index o g t d = g ≡ true → word_at o.words t ≡ pos d
 
-pub index_from_leads : (r : Code) (o : Own) (g : Bool) (t d a : ℕ) (st : List ℤ) → Index o g t d → Stands r.task.code a (index_from g t) → length st + 1 ≤ 64 → Leads r 1 (at o a st) (at o (end a (index_from g t)) (top g d st))
+pub index_from_leads : (r : Context) (o : Own) (g : Bool) (t d a : ℕ) (st : List ℤ) → Index o g t d → Stands r.task.code a (index_from g t) → length st + 1 ≤ 64 → Leads r 1 (at o a st) (at o (end a (index_from g t)) (top g d st))
 index_from_leads r o true t d a st i p len = restack r o 1 _ (suc a) (word_at o.words t ∷ st) (pos d ∷ st) (ap (λ v. v ∷ st) (i refl)) (ld r o a st t p (omega arith))
 index_from_leads r o false t d a st i p len = wider r 0 1 _ _ (stay r _) (omega arith)
 
@@ -23,7 +23,7 @@ abbrev pub source : Bool → Base → ℕ → ℕ → Moved
 source g b n t = record { moving = g; base = b; span = n; index = t }
 
 -- the word j of a place
-pub fetched_leads : (r : Code) (o : Own) (g : Bool) (b : Base) (n t d j a : ℕ) (st : List ℤ) (v : ℤ) → Index o g t d → (g ≡ false → d ≡ 0) → d + j < n → Reads o b (d + j) v → Stands r.task.code a (word_read (source g b n t) j) → length st + 2 ≤ 64
+pub fetched_leads : (r : Context) (o : Own) (g : Bool) (b : Base) (n t d j a : ℕ) (st : List ℤ) (v : ℤ) → Index o g t d → (g ≡ false → d ≡ 0) → d + j < n → Reads o b (d + j) v → Stands r.task.code a (word_read (source g b n t) j) → length st + 2 ≤ 64
     → Leads r 3 (at o a st) (at o (end a (word_read (source g b n t) j)) (v ∷ st))
 fetched_leads r o g b n t d j a st v i z lt rd p len =
     let e : d + j ≡ j + d = omega arith in
@@ -114,12 +114,12 @@ slot_len true b d st = omega arith
 slot_len false (private a) d st = omega arith
 slot_len false (monitor m a) d st = omega arith
 
-pub record Moves (r : Code) (o : Own) (hw : List ℤ) (b : Base) (d w a z : ℕ) (st : List ℤ) (xs : List ℤ) : Type 0 where
+pub record Moves (r : Context) (o : Own) (hw : List ℤ) (b : Base) (d w a z : ℕ) (st : List ℤ) (xs : List ℤ) : Type 0 where
   pub own : Own
   pub leads : Leads r w (at o a st) (at own z st)
   pub wrote : WroteAt o hw b d xs own
 
-module _ (r : Code) (g : Bool) (b : Base) (n t d : ℕ) (h : Bool) (c : Base) (m u e : ℕ) (zd : g ≡ false → d ≡ 0) (ze : h ≡ false → e ≡ 0) where
+module _ (r : Context) (g : Bool) (b : Base) (n t d : ℕ) (h : Bool) (c : Base) (m u e : ℕ) (zd : g ≡ false → d ≡ 0) (ze : h ≡ false → e ≡ 0) where
   pub moved_leads : (xs : List ℤ) (o : Own) (hw : List ℤ) (j a : ℕ) (st : List ℤ) → Index o g t d → Index o h u e → Holder b hw o
       → ((i : ℕ) → i < length xs → Reads o c (e + j + i) (word_at xs i))
       → ((i : ℕ) → i < length xs → HasRoom b (d + j + i) hw o)

@@ -16,7 +16,7 @@ use Rattle.stmt_code.proofs.Named.{named}
 use Rattle.stmt_code.proofs.Needs.{need_steps}
 use Rattle.stmt_code.proofs.Flats.{Fits, total, shape_along, flat_length, get_fits, cut}
 use Rattle.stmt_code.proofs.Fitted.{path_along, path_ends, root_fits}
-use Rattle.stmt_code.proofs.OneStep.{Code, Leads, at, stay, wider, push, store, stx, stm}
+use Rattle.stmt_code.proofs.OneStep.{Context, Leads, at, stay, wider, push, store, stx, stm}
 use Rattle.stmt_code.proofs.ExprsRun.{cut_within, drift, fixed_and_drift, not_moved, state_within, top, restack}
 use Rattle.stmt_code.proofs.ReadsRun.{steps_leads}
 use Rattle.stmt_code.proofs.Stored.{Wrote, wrote_one}
@@ -40,7 +40,7 @@ slot_top true b d st = pos d ∷ st
 slot_top false (private a) d st = st
 slot_top false (monitor m a) d st = pos 0 ∷ st
 
-module _ (r : Code) (o : Own) where
+module _ (r : Context) (o : Own) where
   pub first_leads : (g : Bool) (b : Base) (d a : ℕ) (st : List ℤ) → Stands r.task.code a (before_value g b) → length st + 1 ≤ 64 → Leads r 1 (at o a (top g d st)) (at o (end a (before_value g b)) (slot_top g b d st))
   first_leads true b d a st p len = wider r 0 1 _ _ (stay r _) (omega arith)
   first_leads false (private x) d a st p len = wider r 0 1 _ _ (stay r _) (omega arith)
@@ -63,7 +63,7 @@ module _ (r : Code) (o : Own) where
       let e : x + 0 ≡ x + d = omega (arith, z refl) in
       record { own = record o { held = Some (record { monitor = m; words = slice_set hw (x + 0) v }) }; leads = stm r o a st m x 1 0 v hw p h (omega arith); wrote = (_, refl, subst (λ j. Wrote hw j (v ∷ []) (slice_set hw (x + 0) v)) e (wrote_one hw (x + 0) v (omega (arith, len)))) }
 
-module _ (w : Layout) (lo hi : ℕ) (laid : Laid w lo hi) (sc : Names) (env : Environment) (r : Code) (o : Own) (k : Ready w hi sc env o) where
+module _ (w : Layout) (lo hi : ℕ) (laid : Laid w lo hi) (sc : Names) (env : Environment) (r : Context) (o : Own) (k : Ready w hi sc env o) where
   -- the moving part of a place's offset, on the stack
   pub place_leads : (x : Root) (ss : Steps) (t : Shape) → HasShape w.scope sc (place x ss) t → (a : ℕ) (st : List ℤ) → Stands r.task.code a (index_code w a (place x ss)) → length st + need_steps false ss ≤ 64
       → Leads r (steps_weight ss) (at o a st) (at o (end a (index_code w a (place x ss))) (top (moves ss) (drift env (root_shape w.scope x) ss) st))

@@ -22,7 +22,7 @@ use Rattle.task_code.specs.declared.frame.Frame.{Frame}
 use Rattle.stmt_code.specs.FrameOf.{laid, binder_words, binders_of, frame_of}
 use Rattle.stmt_code.specs.Layout.{Layout, layout_of, binder_at, scratch_at}
 use Rattle.stmt_code.proofs.Roots.{IsSmallBody}
-use Rattle.stmt_code.proofs.OneStep.{Code}
+use Rattle.stmt_code.proofs.OneStep.{Context}
 use Rattle.stmt_code.proofs.Ready.{Laid}
 use Rattle.stmt_code.proofs.AllRun.{Plan}
 use Rattle.stmt_code.proofs.Apportioned.{place_of, behind, ends_before, in_order}
@@ -105,7 +105,7 @@ module _ (arch : Arch) where
         scratch_high = λ k lt. let q = ends_before sent_shape hd.emitters (f.param + message_words arch hd.on + binders_of arch hd + 3) k (omega (arith, sent, lt)) in let e1 = at_scratch k in omega (arith, q, e1, end_is);
       }
 
-  pub planned : IsTyped arch → (h : ℕ) (f : Frame) (r : Code) → f ≡ frame_of arch h f.param f.first_buffer → (i : ℕ) (b : Body) (base : ℕ) → AreProperFields arch b.binders → IsSmallBody arch (handler arch h) b
+  pub planned : IsTyped arch → (h : ℕ) (f : Frame) (r : Context) → f ≡ frame_of arch h f.param f.first_buffer → (i : ℕ) (b : Body) (base : ℕ) → AreProperFields arch b.binders → IsSmallBody arch (handler arch h) b
       → slice_index_or f.binders i [] ≡ laid base (binder_words arch b) → f.param + message_words arch (handler arch h).on ≤ base → base + sum (binder_words arch b) ≤ f.temps
       → ((k : ℕ) → k < length (map sent_shape (handler arch h).emitters) → slice_get r.task.buffers (f.first_buffer + k) ≡ Some (record { width = words (shape_at (map sent_shape (handler arch h).emitters) k); bound = r.bound k }))
       → Plan (layout_of arch (handler arch h) f i b) (f.param + message_words arch (handler arch h).on) f.end r (zeros_of_fields (table_of arch.records) b.binders)

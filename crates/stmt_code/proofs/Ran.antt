@@ -9,7 +9,7 @@ use Rattle.task_code.specs.Own.{Own, Filled}
 use Rattle.task_code.specs.Does.{slot}
 use Rattle.stmt_code.specs.Layout.{Layout}
 use Rattle.stmt_code.proofs.Named.{with_env}
-use Rattle.stmt_code.proofs.OneStep.{Code, Leads, at, wider, on}
+use Rattle.stmt_code.proofs.OneStep.{Context, Leads, at, wider, on}
 use Rattle.stmt_code.proofs.Ready.{Ready, Kept, kept_on, less_ready, Laid}
 
 abbrev pub no_buffer : Filled
@@ -29,7 +29,7 @@ pub record Holding (width limit : ℕ) (l : List Value) (f : Filled) : Type 0 wh
   pub wide : (i : ℕ) → i < limit → length (slot f i) ≡ width
   pub words : (i : ℕ) → i < length l → slot f i ≡ flat (slice_index_or l i (word (pos 0)))
 
-pub record Fill (w : Layout) (r : Code) (lists : List (List Value)) (bs : List Filled) : Type 0 where
+pub record Fill (w : Layout) (r : Context) (lists : List (List Value)) (bs : List Filled) : Type 0 where
   pub listed : length lists ≡ length w.scope.emitters
   pub within : w.first_buffer + length w.scope.emitters ≤ length bs
   pub each : (k : ℕ) → k < length w.scope.emitters → Holding (words (shape_at w.scope.emitters k)) (r.bound k) (list_at lists k) (buffer_at bs (w.first_buffer + k))
@@ -39,7 +39,7 @@ pub record Others (w : Layout) (bs cs : List Filled) : Type 0 where
   pub size : length cs ≡ length bs
   pub same : (b : ℕ) → (b < w.first_buffer) ⊎ (w.first_buffer + length w.scope.emitters ≤ b) → buffer_at cs b ≡ buffer_at bs b
 
-pub record Ran (w : Layout) (lo hi : ℕ) (r : Code) (o : Own) (n a z : ℕ) (st : List ℤ) (sc : Names) (ls : List (List Value)) (y : Execution) (g : ℕ → ℕ) : Type 0 where
+pub record Ran (w : Layout) (lo hi : ℕ) (r : Context) (o : Own) (n a z : ℕ) (st : List ℤ) (sc : Names) (ls : List (List Value)) (y : Execution) (g : ℕ → ℕ) : Type 0 where
   pub own : Own
   pub leads : Leads r n (at o a st) (at own z st)
   pub ready : Ready w hi sc y.env own
@@ -54,7 +54,7 @@ others_same w bs = record { size = refl; same = λ b h. refl }
 pub others_on : (w : Layout) (bs cs ds : List Filled) → Others w bs cs → Others w cs ds → Others w bs ds
 others_on w bs cs ds p q = record { size = q.size ∙ p.size; same = λ b h. q.same b h ∙ p.same b h }
 
-module _ (w : Layout) (lo hi : ℕ) (r : Code) where
+module _ (w : Layout) (lo hi : ℕ) (r : Context) where
   -- a statement that sends nothing
   pub plain : (o own : Own) (n a z : ℕ) (st : List ℤ) (sc : Names) (x : Execution) (env : Environment) (g : ℕ → ℕ) → Fill w r x.lists o.buffers → Leads r n (at o a st) (at own z st) → Ready w hi sc env own → Kept lo hi o own → own.buffers ≡ o.buffers → Ran w lo hi r o n a z st sc x.lists (with_env x env) g
   plain o own n a z st sc x env g f l rd k e =

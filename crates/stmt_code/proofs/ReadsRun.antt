@@ -22,7 +22,7 @@ use Rattle.stmt_code.proofs.Named.{named}
 use Rattle.stmt_code.proofs.Needs.{need, need_place, need_steps, one_if}
 use Rattle.stmt_code.proofs.Flats.{flat_length, fields_of_list, total, cut}
 use Rattle.stmt_code.proofs.Fitted.{word_is, num_fits, index_is, expr_fits, place_fits, path_along, root_fits}
-use Rattle.stmt_code.proofs.OneStep.{Code, Leads, at, stay, wider, on, push, un as un_leads, bin as bin_leads, cast as cast_leads, jmp, jz_taken, jz_passed}
+use Rattle.stmt_code.proofs.OneStep.{Context, Leads, at, stay, wider, on, push, un as un_leads, bin as bin_leads, cast as cast_leads, jmp, jz_taken, jz_passed}
 use Rattle.stmt_code.proofs.ExprsRun.{word_cut, cut_within, unless_given, index_in, drift, fixed_and_drift, still_zero, not_moved, nth_within, top, Reads, Known, plus_reads, restack, index_leads, word_leads}
 
 or_false : (g : Bool) → (g || false) ≡ g
@@ -56,7 +56,7 @@ unless_le : (g : Option ℕ) (n : ℕ) → unless_given g n ≤ n
 unless_le None n = omega arith
 unless_le (Some k) n = omega arith
 
-module _ (w : Layout) (sc : Names) (env : Environment) (r : Code) (o : Own) (k : Known w sc env o) where
+module _ (w : Layout) (sc : Names) (env : Environment) (r : Context) (o : Own) (k : Known w sc env o) where
   -- the words of a root's value
   pub root_reads : (x : Root) → HasRoot w.scope sc x → (d : ℕ) → d < words (root_shape w.scope x) → Reads o (root_base w x) d (word_at (flat (named x env)) d)
   root_reads root.Param h d lt = let l = flat_length w.scope.message env.message k.fit.message in k.shows.message d (omega (arith, l))

@@ -1,5 +1,5 @@
 -- How large the values are that a callback names: their words can be counted by 64-bit numbers.
-use Rattle.std.proofs.Common.{◌≡◌, ℕ, zero, suc, ◌+◌, ◌*◌, ◌<◌, ◌≤◌, ◌^◌, List, [], ◌∷◌, length, map, inl, inr, refl, ap, arith, slice_index_or}
+use Rattle.std.proofs.Common.{◌≡◌, ℕ, zero, suc, ◌<◌, ◌≤◌, ◌^◌, List, [], ◌∷◌, map, inl, inr, refl, ap, arith, slice_index_or}
 use Rattle.std.specs.Prelude.{All, sum}
 use Rattle.std.proofs.lemmas.List.Elements.{All-cons, All-nil}
 use Rattle.tower_types.specs.Ty.{Shape, all, shapes_of, shape_of_fields, table_of, words}

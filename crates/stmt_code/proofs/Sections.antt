@@ -1,17 +1,17 @@
 -- A section, from the code of its callbacks.
-use Rattle.std.proofs.Common.{◌≡◌, ◌∙◌, ℕ, zero, suc, ◌+◌, ◌<◌, ◌≤◌, inl, inr, List, [], ◌∷◌, map, length, Some, None, refl, sym, ap, subst, arith, slice_get, slice_set, length-set}
+use Rattle.std.proofs.Common.{◌≡◌, ◌∙◌, ℕ, zero, suc, ◌+◌, ◌<◌, ◌≤◌, inl, inr, List, [], ◌∷◌, map, length, Some, refl, sym, ap, subst, arith, slice_get, slice_set, length-set}
 use Rattle.std.specs.Prelude.{sum}
 use Rattle.std.proofs.lemmas.Bool.{cases_eq}
 use Rattle.std.proofs.lemmas.Option.{same_Some}
 use Rattle.tower_types.specs.Value.{Value}
 use Rattle.tower_syntax.specs.Arch.{Arch, Handler, Body}
 use Rattle.tower_syntax.specs.Graph.{handler}
-use Rattle.tower_syntax.specs.Weights.{executed, standing, bodies_weight, section_by, stmts_weight, scope_of, memory}
+use Rattle.tower_syntax.specs.Weights.{executed, standing, bodies_weight, section_by, stmts_weight, scope_of}
 use Rattle.task_code.specs.declared.program.Buffer.{Buffer}
 use Rattle.task_code.specs.declared.program.Task.{Task}
 use Rattle.task_code.specs.Program.{Program}
 use Rattle.task_code.specs.Own.{Filled, Own}
-use Rattle.task_code.specs.Does.{with_count, on}
+use Rattle.task_code.specs.Does.{with_count}
 use Rattle.task_code.specs.Leads.{Leads, at}
 use Rattle.task_code.proofs.Leads as steps
 use Rattle.task_code.specs.declared.frame.Frame.{Frame}

@@ -24,7 +24,7 @@ use Rattle.stmt_code.proofs.Needs.{need, need_steps, room_of}
 use Rattle.stmt_code.proofs.Flats.{Fits, flat_length}
 use Rattle.stmt_code.proofs.WordSums.{u64_fits, u64_add, less_is, less_not}
 use Rattle.stmt_code.proofs.Fitted.{word_is, expr_fits}
-use Rattle.stmt_code.proofs.OneStep.{Code, Leads, at, stay, wider, on, push, ld, store, bin as bin_leads, jmp, jz_taken, jz_passed}
+use Rattle.stmt_code.proofs.OneStep.{Context, Leads, at, stay, wider, on, push, ld, store, bin as bin_leads, jmp, jz_taken, jz_passed}
 use Rattle.stmt_code.proofs.ExprsRun.{drift, restack}
 use Rattle.stmt_code.proofs.ReadsRun.{expr_leads}
 use Rattle.stmt_code.proofs.Stored.{Wrote, wrote_one, wrote_self}
@@ -54,7 +54,7 @@ ix_fits i n h = index_fits n i h
 bound_same : (b : ℕ) (u : Value) (env : Environment) → b < length env.binders → named (root.Binder b) (bound b u env) ≡ u
 bound_same b u env lt = get_or-set_same env.binders b u (word (pos 0)) lt
 
-module _ (w : Layout) (lo hi : ℕ) (laid : Laid w lo hi) (r : Code) (zeros : List Value)
+module _ (w : Layout) (lo hi : ℕ) (laid : Laid w lo hi) (r : Context) (zeros : List Value)
     (zero_is : (b : ℕ) → b < length w.scope.binders → slice_index_or zeros b (word (pos 0)) ≡ zero_of (shape_at w.scope.binders b))
     (zero_fits : (b : ℕ) → b < length w.scope.binders → Fits (shape_at w.scope.binders b) (zero_of (shape_at w.scope.binders b)))
   where

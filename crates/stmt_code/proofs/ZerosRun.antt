@@ -5,7 +5,7 @@ use Rattle.tower_types.specs.Value.{Value, flat, flat_all, zero_of, zeros_of, co
 use Rattle.task_code.specs.Own.{Own}
 use Rattle.task_code.specs.Piece.{end, Stands}
 use Rattle.stmt_code.specs.Body.{zeroed}
-use Rattle.stmt_code.proofs.OneStep.{Code, Leads, at, stay, wider, on, push, store}
+use Rattle.stmt_code.proofs.OneStep.{Context, Leads, at, stay, wider, on, push, store}
 use Rattle.stmt_code.proofs.Stored.{Wrote, wrote_one, wrote_none, wrote_next}
 
 replicate_add : (m n : ℕ) (x : ℤ) → replicate m x ++ replicate n x ≡ replicate (m + n) x
@@ -28,12 +28,12 @@ mutual
   zeros_flat no_shapes = refl
   zeros_flat (shape s ss) = ap (λ l. l ++ flat_all (zeros_of ss)) (zero_flat s) ∙ ap (λ l. replicate (words s) (pos 0) ++ l) (zeros_flat ss) ∙ replicate_add (words s) (words_of_all ss) (pos 0)
 
-pub record Zeroed (r : Code) (o : Own) (n a p : ℕ) (st : List ℤ) : Type 0 where
+pub record Zeroed (r : Context) (o : Own) (n a p : ℕ) (st : List ℤ) : Type 0 where
   pub to : List ℤ
   pub leads : Leads r (2 * n) (at o a st) (at (record o { words = to }) (end a (zeroed p n)) st)
   pub wrote : Wrote o.words p (replicate n (pos 0)) to
 
-pub zeroed_leads : (r : Code) (n : ℕ) (o : Own) (a p : ℕ) (st : List ℤ) → Stands r.task.code a (zeroed p n) → length st + 1 ≤ 64 → p + n ≤ length o.words → Zeroed r o n a p st
+pub zeroed_leads : (r : Context) (n : ℕ) (o : Own) (a p : ℕ) (st : List ℤ) → Stands r.task.code a (zeroed p n) → length st + 1 ≤ 64 → p + n ≤ length o.words → Zeroed r o n a p st
 zeroed_leads r zero o a p st h len lt = record { to = o.words; leads = wider r 0 (2 * 0) _ _ (stay r _) (omega arith); wrote = wrote_none o.words p }
 zeroed_leads r (suc n) o a p st h len lt =
     let one' = wrote_one o.words p (pos 0) (omega arith) in

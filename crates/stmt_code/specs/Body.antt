@@ -2,7 +2,7 @@
 use Rattle.std.specs.Prelude.{ℕ, zero, suc, ◌+◌, ◌-◌, ◌||◌, pos, Option, Some, None, Bool, true, false}
 use Rattle.tower_types.specs.declared.scalar.Scalar.TheVariants.{U64}
 use Rattle.tower_types.specs.declared.scalar.BinOp.TheVariants.{Add, Mul, Less}
-use Rattle.tower_types.specs.Ty.{Shape, one, words}
+use Rattle.tower_types.specs.Ty.{Shape, words}
 use Rattle.tower_syntax.specs.Tree.{Expr, lit, read, un, bin, choose, cast, Place, place, Steps, no_steps, field, at, Stmt, bind, local, set, copy, branch, loop, emit, Stmts, no_stmts, stmt}
 use Rattle.tower_syntax.specs.Weights.{shape_at, root_shape, field_shape, element_shape, place_shape}
 use Rattle.task_code.specs.declared.program.Instr.{Instr}

@@ -1,5 +1,5 @@
 -- What the code of a handler's section does: from its LOCK to its UNLOCK it does the effect.
-use Rattle.std.specs.Prelude.{◌≡◌, ℕ, ◌+◌, ◌*◌, ◌<◌, ◌≤◌, true, List, [], length, map, sum, Some, None, slice_get}
+use Rattle.std.specs.Prelude.{◌≡◌, ℕ, ◌+◌, ◌<◌, ◌≤◌, true, List, [], length, Some, None, slice_get}
 use Rattle.tower_types.specs.Value.{Value, flat}
 use Rattle.tower_syntax.specs.declared.arch.Listener.TheVariants as to
 use Rattle.tower_syntax.specs.Arch.{Arch, Emitter}
@@ -29,7 +29,8 @@ pub record HasFrame (arch : Arch) (t : Task) (h : ℕ) (f : Frame) : Type 0 wher
   pub laid : f ≡ frame_of arch h f.param f.first_buffer
   pub room : f.end ≤ t.room
   pub has_buffers : f.first_buffer + length (handler arch h).emitters ≤ length t.buffers
-  pub tables : (k : ℕ) (e : Emitter) → slice_get (handler arch h).emitters k ≡ Some e → slice_get t.buffers (f.first_buffer + k) ≡ Some (record { width = emitter_words arch e; bound = e.bound })
+  pub tables : (k : ℕ) (e : Emitter) → slice_get (handler arch h).emitters k ≡ Some e
+      → slice_get t.buffers (f.first_buffer + k) ≡ Some (record { width = emitter_words arch e; bound = e.bound })
 
 -- the words of the frame behind its message, and the buffers of the handler's emitters
 abbrev pub IsOwnWord : Arch → ℕ → Frame → ℕ → Type 0
@@ -65,7 +66,7 @@ pub record DoesEffect (arch : Arch) (p : Program) (t : Task) (h : ℕ) (f : Fram
   pub formed : IsFormed t own
   pub changed : ChangesOnly (IsOwnWord arch h f) (IsOwnBuffer arch h f) u own
 
--- The code of each section does so, whatever message and value it is handed that fit, and takes less than its weight,
+-- The code of each section does so, whatever message and value it is handed that fit, and takes at most its weight,
 -- counted with its LOCK, its UNLOCK and the RET behind it.
 abbrev pub SectionsDoEffects : Type 0
 SectionsDoEffects =

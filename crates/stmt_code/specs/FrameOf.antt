@@ -1,5 +1,5 @@
 -- The private words and the buffers of each handler in a task.
-use Rattle.std.specs.Prelude.{ℕ, ◌+◌, List, [], ◌∷◌, ◌==◌, map, sum, length, Bool, true, false}
+use Rattle.std.specs.Prelude.{ℕ, ◌+◌, List, [], ◌∷◌, map, sum}
 use Rattle.tower_types.specs.Ty.{words, shape_in, table_of}
 use Rattle.tower_syntax.specs.Arch.{Arch, Handler, Body}
 use Rattle.tower_syntax.specs.Graph.{handler}

@@ -1,11 +1,11 @@
 -- Where the names of a callback stand, and what its places are.
-use Rattle.std.specs.Prelude.{ℕ, zero, suc, ◌+◌, ◌-◌, ◌*◌, List, [], ◌∷◌, map, slice_index_or, pos, Option, Some, None, Bool, true, false, ◌||◌}
+use Rattle.std.specs.Prelude.{ℕ, zero, suc, ◌+◌, ◌-◌, ◌*◌, List, [], ◌∷◌, slice_index_or, pos, Option, Some, None, Bool, true, false, ◌||◌}
 use Rattle.tower_types.specs.Ty.{Shape, one, many, all, Shapes, no_shapes, shape, words}
 use Rattle.tower_syntax.specs.declared.body.Root.{Root}
 use Rattle.tower_syntax.specs.declared.body.Root.TheVariants as root
 use Rattle.tower_syntax.specs.Tree.{Expr, lit, Place, place, Steps, no_steps, field, at}
 use Rattle.tower_syntax.specs.Arch.{Arch, Handler, Body}
-use Rattle.tower_syntax.specs.Weights.{Scope, scope_of, shape_at, nth_shape, root_shape, field_shape, element_shape}
+use Rattle.tower_syntax.specs.Weights.{Scope, scope_of, root_shape, field_shape, element_shape}
 use Rattle.task_code.specs.declared.frame.Frame.{Frame}
 
 pub record Layout : Type 0 where

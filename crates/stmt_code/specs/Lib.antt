@@ -7,3 +7,4 @@ pub mod There
 pub mod Seen
 pub mod Effects
 pub mod FrameParts
+pub mod WorkedEmissions

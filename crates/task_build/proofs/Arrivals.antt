@@ -1,13 +1,13 @@
 -- An event record that fits an accepted system fits its program.
-use Rattle.std.proofs.Common.{◌≡◌, ◌∙◌, ℕ, zero, suc, ◌+◌, ◌≤◌, Bool, true, false, is_some, List, [], ◌∷◌, length, map, All, Option, Some, None, refl, sym, ap, subst, arith, slice_get}
+use Rattle.std.proofs.Common.{◌≡◌, ◌∙◌, ℕ, zero, suc, ◌+◌, ◌≤◌, false, is_some, List, [], ◌∷◌, length, map, All, Option, Some, None, refl, sym, ap, subst, arith, slice_get}
 use Rattle.std.proofs.lemmas.List.{length-map}
 use Rattle.std.proofs.lemmas.List.Elements.{All-cons, All-nil, All-head, All-tail}
 use Rattle.std.proofs.lemmas.Bool.{false≢true}
 use Rattle.std.proofs.lemmas.Option.{same_Some, none-some}
 use Rattle.tower_types.specs.declared.scalar.Scalar.TheVariants.{I64}
-use Rattle.tower_types.specs.Ty.{scalar, Shape, one, many, all, Shapes, no_shapes, shape, shape_in, shape_of, table_of, words, depth, depth_of_all}
-use Rattle.tower_types.specs.Value.{Value, word, parts, Values, no_values, value, fits, fits_all, fits_each, value_depth, depth_of_values}
-use Rattle.tower_types.proofs.Flat.{both, length-flat}
+use Rattle.tower_types.specs.Ty.{scalar, shape_in, shape_of, table_of, words, depth}
+use Rattle.tower_types.specs.Value.{Value, value_depth}
+use Rattle.tower_types.proofs.Flat.{length-flat}
 use Rattle.tower_syntax.specs.declared.arch.SourceKind.{SourceKind}
 use Rattle.tower_syntax.specs.declared.arch.SourceKind.TheVariants as kind
 use Rattle.tower_syntax.specs.declared.arch.On.TheVariants as on
@@ -20,45 +20,15 @@ use Rattle.task_code.specs.declared.program.Task.{Task}
 use Rattle.task_code.specs.Fits.{IsDepth, FitsKind, FitsSignal, FitsEntry, Fits}
 use Rattle.task_build.specs.CodeOf.{task_of, tasks_from, code_of}
 use Rattle.task_alone.proofs.Lists.{get_map, get_unmap, all_at}
-use Rattle.arch_order.proofs.Lists.{each_element}
+use Rattle.arch_types.proofs.Lists.{each_element}
 use Rattle.arch_checks.specs.Laws.{IsSafe}
 use Rattle.arch_checks.specs.Offences.{IsAccepted}
 use Rattle.arch_checks.proofs.Accepted.{safe}
-use Rattle.task_build.proofs.Kept.{IsSomeDepth, KeepsNumbers}
-use Rattle.task_build.proofs.Ranged.{keeps_numbers}
-use Rattle.task_build.proofs.Goods.{IsLow, low_sources}
+use Rattle.arch_checks.proofs.Values.{low_value}
+use Rattle.arch_types.specs.Ranged.{IsSomeDepth}
+use Rattle.arch_checks.specs.Kept.{KeepsNumbers}
+use Rattle.arch_checks.proofs.Goods.{IsLow, low_sources}
 use Rattle.task_build.proofs.Typing.{message_is}
-
--- ---- a value that fits is no deeper than its shape
-
-each_low : (n : ℕ) (p : Value → Bool) (k : ℕ) → ((v : Value) → p v ≡ true → value_depth v ≤ k) → (vs : Values) → fits_each n p vs ≡ true → depth_of_values vs ≤ k
-each_low zero p k low no_values h = omega arith
-each_low zero p k low (value v vs) h = absurd (false≢true h)
-each_low (suc n) p k low no_values h = omega arith
-each_low (suc n) p k low (value v vs) h =
-    let two = both (p v) (fits_each n p vs) h in
-    let one : value_depth v ≤ k = low v two.0 in
-    let rest : depth_of_values vs ≤ k = each_low n p k low vs two.1 in
-    omega (arith, one, rest)
-
-mutual
-  low_value : (s : Shape) (v : Value) → fits s v ≡ true → value_depth v ≤ depth s
-  low_value (one c) (word n) h = omega arith
-  low_value (one c) (parts vs) h = absurd (false≢true h)
-  low_value (many n s) (word m) h = absurd (false≢true h)
-  low_value (many n s) (parts vs) h = let r : depth_of_values vs ≤ depth s = each_low n (fits s) (depth s) (λ v e. low_value s v e) vs h in omega (arith, r)
-  low_value (all ss) (word m) h = absurd (false≢true h)
-  low_value (all ss) (parts vs) h = let r : depth_of_values vs ≤ depth_of_all ss = low_values ss vs h in omega (arith, r)
-
-  low_values : (ss : Shapes) (vs : Values) → fits_all ss vs ≡ true → depth_of_values vs ≤ depth_of_all ss
-  low_values no_shapes no_values h = omega arith
-  low_values no_shapes (value v vs) h = absurd (false≢true h)
-  low_values (shape s ss) no_values h = omega arith
-  low_values (shape s ss) (value v vs) h =
-      let two = both (fits s v) (fits_all ss vs) h in
-      let one : value_depth v ≤ depth s = low_value s v two.0 in
-      let rest : depth_of_values vs ≤ depth_of_all ss = low_values ss vs two.1 in
-      omega (arith, one, rest)
 
 -- ---- the tasks of sources
 
@@ -125,4 +95,4 @@ module _ (arch : Arch) (safe_arch : IsSafe arch) (keeps : KeepsNumbers arch) (ev
   }
 
 pub accepted_fit : (bs : List ℕ) (arch : Arch) → IsAccepted bs arch → (events : Events) → Fit arch events → Fits (code_of arch) events
-accepted_fit bs arch accepted events fit = events_fit arch (safe bs arch accepted) (keeps_numbers bs arch accepted) events fit
+accepted_fit bs arch accepted events fit = let s : IsSafe arch = safe bs arch accepted in events_fit arch s s.numbers events fit

@@ -13,8 +13,8 @@ use Rattle.arch_checks.specs.Offences.{IsAccepted}
 use Rattle.arch_checks.proofs.Accepted.{safe}
 use Rattle.task_build.proofs.Planned.{HasSmallBounds}
 use Rattle.task_build.proofs.Coded.{code_alone}
-use Rattle.task_build.proofs.Kept.{KeepsNumbers}
-use Rattle.task_build.proofs.Ranged.{keeps_numbers}
+use Rattle.arch_checks.specs.Kept.{KeepsNumbers}
+use Rattle.arch_checks.proofs.Facts.{walks_short}
 use Rattle.task_build.proofs.Weighed.{shaped}
 
 -- what all handlers have, and no handler has too
@@ -32,7 +32,9 @@ small_bounds arch keeps h k e has =
 
 -- the program of an accepted system is right alone
 pub alone : (bs : List ℕ) (arch : Arch) → IsAccepted bs arch → Alone arch (code_of arch)
-alone bs arch accepted = code_alone arch (safe bs arch accepted) (small_bounds arch (keeps_numbers bs arch accepted))
+alone bs arch accepted =
+    let s : IsSafe arch = safe bs arch accepted in
+    code_alone arch s (small_bounds arch s.numbers) (walks_short bs arch accepted)
 
 -- and sound
 pub sound : (bs : List ℕ) (arch : Arch) → IsAccepted bs arch → Sound arch (code_of arch)

@@ -7,12 +7,9 @@ use Rattle.tower_syntax.specs.declared.arch.Listener.{Listener}
 use Rattle.tower_syntax.specs.declared.arch.Listener.TheVariants as to
 use Rattle.tower_syntax.specs.Arch.{Arch, Source}
 use Rattle.tower_syntax.specs.Graph.{handler, no_output, hears, subs, Reaches, begins, goes, reached_by}
-use Rattle.tower_syntax.specs.WellNumbered.{AreListeners, IsWellNumbered}
-use Rattle.tower_syntax.specs.Typed.{IsTyped}
+use Rattle.tower_syntax.specs.WellNumbered.{AreListeners}
 use Rattle.tower_meaning.proofs.KeepsTypes.{keeps_types}
-use Rattle.std.proofs.lemmas.Bool.{cases_lt}
 use Rattle.tower_syntax.specs.Weights.{message_words, channel_message, handler_memory, memory}
-use Rattle.tower_meaning.specs.Fits.{KeepsTypes}
 use Rattle.task_code.specs.declared.program.Buffer.{Buffer}
 use Rattle.task_code.specs.declared.program.Task.{Task}
 use Rattle.task_code.specs.Piece.{Piece, ◌▸◌, end, Stands}
@@ -21,16 +18,15 @@ use Rattle.task_build.specs.CodeOf.{frames_from, end_of, buffers_of, all_buffers
 use Rattle.emit_code.specs.Delivery.{Entry}
 use Rattle.lock_reduction.specs.Reduce.{Alone}
 use Rattle.task_alone.specs.SettingOf.{first_buffer}
-use Rattle.channel_graph.specs.Circuit.{IsAcyclic}
-use Rattle.channel_graph.specs.Chain.{IsWalk, IsChain}
-use Rattle.channel_graph.proofs.Walked.{walk_is_short}
+use Rattle.channel_graph.specs.Chain.{IsWalk}
 use Rattle.channel_graph.proofs.Members.{In, filter_has, contains_from_In, In-from_contains}
 use Rattle.channel_graph.proofs.Closed.{listed_is_reached, reached_is_listed}
 use Rattle.arch_checks.specs.declared.fault.What.TheVariants as what
 use Rattle.arch_checks.specs.Laws.{IsSafe}
 use Rattle.task_build.proofs.Handled.{sections_run}
 use Rattle.task_build.proofs.Roots.{handler_in_memory}
-use Rattle.task_build.proofs.Planned.{HasSmallBounds, Planned, Headed, IsDelivered, known_of, taken_of, entries_of}
+use Rattle.task_build.proofs.Planned.{HasSmallBounds, Planned, Headed, IsDelivered}
+use Rattle.task_build.specs.TaskEntries.{known_of, taken_of, entries_of}
 use Rattle.emit_code.specs.Entries.{frame_in}
 use Rattle.task_build.proofs.Frames.{inner}
 use Rattle.emit_code.specs.Entries.{HasParts}
@@ -212,34 +208,11 @@ task_from arch (q ∷ sources) s (suc x) t e =
     let lt : x < length sources = r.1 in
     (r.0, omega (arith, lt), r.2, ap (λ a. task_of arch a r.0) z ∙ r.3)
 
--- a walk that is longer than each longest one has no end
-none_over : (arch : Arch) (limit : ℕ) → AreListeners arch → IsAcyclic arch → ((n : ℕ) → IsChain arch n → n ≤ limit) → (d : ℕ) (walk : List ℕ) → IsWalk arch walk → limit < length walk → length arch.handlers < length walk + d → ⊥
-none_over arch limit listed_once acyclic chain zero walk is over long =
-    let few : length walk ≤ length arch.handlers = walk_is_short arch walk listed_once acyclic is in
-    omega (arith, few, long)
-none_over arch limit listed_once acyclic chain (suc d) walk is over long =
-    let few : length walk ≤ limit = chain (length walk) (record {
-      walk = walk;
-      is = is;
-      long = refl;
-      longest = λ other is_other. elim (cases_lt (length walk) (length other)) [
-        | inl longer ↦ absurd (none_over arch limit listed_once acyclic chain d other is_other (omega (arith, over, longer)) (omega (arith, long, longer)))
-        | inr le ↦ le
-      ];
-    }) in
-    omega (arith, few, over)
-
-pub short_walks : (arch : Arch) (limit : ℕ) → AreListeners arch → IsAcyclic arch → ((n : ℕ) → IsChain arch n → n ≤ limit) → (walk : List ℕ) → IsWalk arch walk → length walk ≤ limit
-short_walks arch limit listed_once acyclic chain walk is = elim (cases_lt limit (length walk)) [
-  | inl over ↦ absurd (none_over arch limit listed_once acyclic chain (suc (length arch.handlers)) walk is over (omega arith))
-  | inr le ↦ le
-]
-
 -- the program of a system is right alone
-pub code_alone : (arch : Arch) → IsSafe arch → HasSmallBounds arch → Alone arch (code_of arch)
-code_alone arch safe small =
+pub code_alone : (arch : Arch) → IsSafe arch → HasSmallBounds arch → ((walk : List ℕ) → IsWalk arch walk → length walk ≤ 100) → Alone arch (code_of arch)
+code_alone arch safe small walks =
     let listed_once : AreListeners arch = safe.numbered.listeners in
-    alone arch (code_of arch) listed_once safe.acyclic (keeps_types arch safe.numbered safe.typed) (short_walks arch 100 listed_once safe.acyclic (λ n c. safe.within what.Chain n c)) (λ x t e.
+    alone arch (code_of arch) listed_once safe.acyclic (keeps_types arch safe.numbered safe.typed) walks (λ x t e.
     let r = task_from arch arch.sources 0 x t e in
     let z : 0 + x ≡ x = omega arith in
     subst (λ q. IsDelivered arch (code_of arch) q x) (ap (λ a. task_of arch a r.0) (sym z) ∙ r.3) (delivered arch listed_once x r.0 r.1 small safe))

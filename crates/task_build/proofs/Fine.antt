@@ -20,9 +20,10 @@ use Rattle.stmt_code.specs.Layout.{Layout, Base, private, monitor, plus, root_ba
 use Rattle.stmt_code.specs.Body.{expr_code, steps_code, read_word, before_value, behind_value, scaled, added, if_moving, zeroed, kept, index_from, Moved, word_read, words_copied}
 use Rattle.task_code.specs.Emission.{words_put, emission}
 use Rattle.arch_types.specs.Scalars.{IsProperExpr, AreProperSteps}
-use Rattle.arch_order.proofs.Lists.{AllOf, all_both}
-use Rattle.task_build.proofs.Layouts.{IsFull, AreFull, IsWide, IsLaid}
-use Rattle.task_build.proofs.Goods.{full_words, times}
+use Rattle.arch_types.proofs.Lists.{AllOf, all_both}
+use Rattle.arch_checks.specs.Wide.{IsFull, AreFull, IsWide}
+use Rattle.task_build.proofs.Layouts.{IsLaid}
+use Rattle.arch_checks.proofs.Goods.{full_words, times}
 
 pub grows : (q : Piece) (a : ℕ) → a ≤ end a q
 grows nil a = omega arith

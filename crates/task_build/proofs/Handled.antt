@@ -4,7 +4,7 @@ use Rattle.std.proofs.lemmas.List.{append-nil}
 use Rattle.tower_types.specs.Value.{Value}
 use Rattle.tower_syntax.specs.declared.arch.Listener.TheVariants as to
 use Rattle.tower_syntax.specs.Arch.{Arch}
-use Rattle.tower_syntax.specs.Graph.{handler, leads, Reaches, reached_by}
+use Rattle.tower_syntax.specs.Graph.{handler, leads, Reaches}
 use Rattle.tower_syntax.specs.WellNumbered.{AreListeners}
 use Rattle.tower_syntax.specs.Weights.{emitter_weight, section, handler_memory, memory}
 use Rattle.tower_meaning.specs.System.{Item}
@@ -32,7 +32,7 @@ use Rattle.stmt_code.specs.Section.{section_code}
 use Rattle.stmt_code.specs.Effects.{HasFrame, BeforeLock, DoesEffect}
 use Rattle.stmt_code.proofs.Sections.{do_effects}
 use Rattle.emit_code.specs.Delivery.{Entry, delivery_code}
-use Rattle.emit_code.specs.Entries.{Behind, frame_in, place_in, InFrames, Touched, InBuffers, TouchedBuffers, Entered, Returned, Carries, Going}
+use Rattle.emit_code.specs.Entries.{NoneComesBack, frame_in, place_in, InFrames, Touched, InBuffers, TouchedBuffers, Entered, Returned, Carries, Going}
 use Rattle.emit_code.specs.Delivering.{OfEntry}
 use Rattle.emit_code.proofs.Delivered.{wider, as_called, buffers_called, begins, delivery_visits}
 use Rattle.emit_code.proofs.Listed.{all_in}
@@ -75,7 +75,7 @@ sections_run arch p t x entries planned safe h r limit v fits u entered =
       },
     )
 
-module _ (arch : Arch) (p : Program) (t : Task) (x : ℕ) (entries : List Entry) (planned : Planned arch p t x entries) (listed : AreListeners arch) (acyclic : (h : ℕ) → Reaches arch x h → Behind arch h h → ⊥) (keeps : KeepsTypes arch) (cost : ℕ → ℕ) (delivery : IsDelivery arch x cost) (sections : (h : ℕ) → Reaches arch x h → SectionRuns arch p t x entries h) where
+module _ (arch : Arch) (p : Program) (t : Task) (x : ℕ) (entries : List Entry) (planned : Planned arch p t x entries) (listed : AreListeners arch) (acyclic : NoneComesBack arch x) (keeps : KeepsTypes arch) (cost : ℕ → ℕ) (delivery : IsDelivery arch x cost) (sections : (h : ℕ) → Reaches arch x h → SectionRuns arch p t x entries h) where
   abbrev frames : ℕ → ℕ → Type 0
   frames h a = InFrames arch x entries h a
 

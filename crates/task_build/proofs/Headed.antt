@@ -35,7 +35,7 @@ use Rattle.channel_graph.specs.Laws.{IsDelivery}
 use Rattle.channel_graph.proofs.Linked.{link_of}
 use Rattle.channel_graph.proofs.Members.{In, filter_has, contains_from_In, In-from_contains}
 use Rattle.task_code.specs.Formed.{HoldWords, IsFormedBuffer, IsFormed}
-use Rattle.emit_code.specs.Entries.{Behind, next, later, frame_in, place_in, Touched, Entered, HasParts}
+use Rattle.emit_code.specs.Entries.{NoneComesBack, Behind, next, later, frame_in, place_in, Touched, Entered, HasParts}
 use Rattle.task_build.proofs.Planned.{Planned, SectionRuns, Headed, AtHead, AtTake}
 use Rattle.task_code.proofs.Lists.{set_same, set_other}
 use Rattle.task_code.proofs.Formed.{at_is, formed_like}
@@ -193,7 +193,7 @@ channel_of arch h g listed (later a b f l) = led_on arch a b listed l
 abbrev pub Short : Arch → ℕ → Type 0
 Short arch h = (ks : List ℕ) → LeadsAlong arch h ks → length ks < 255
 
-module _ (arch : Arch) (p : Program) (t : Task) (x : ℕ) (entries : List Entry) (planned : Planned arch p t x entries) (headed : Headed arch t x entries) (listed : AreListeners arch) (acyclic : (h : ℕ) → Reaches arch x h → Behind arch h h → ⊥) (keeps : KeepsTypes arch) (delivery : IsDelivery arch x (deliver arch)) (few : (h : ℕ) → Reaches arch x h → Short arch h) (sections : (h : ℕ) → Reaches arch x h → SectionRuns arch p t x entries h) where
+module _ (arch : Arch) (p : Program) (t : Task) (x : ℕ) (entries : List Entry) (planned : Planned arch p t x entries) (headed : Headed arch t x entries) (listed : AreListeners arch) (acyclic : NoneComesBack arch x) (keeps : KeepsTypes arch) (delivery : IsDelivery arch x (deliver arch)) (few : (h : ℕ) → Reaches arch x h → Short arch h) (sections : (h : ℕ) → Reaches arch x h → SectionRuns arch p t x entries h) where
   abbrev width : ℕ
   width = message_words arch (on.Source x)
 

@@ -23,7 +23,7 @@ extends arch h g (later j k b led) ms along =
     (r.0, r.1, omega (arith, lt))
 
 -- where walks are short, none comes back
-no_cycle : (arch : Arch) (n h : ℕ) → ((ks : List ℕ) → LeadsAlong arch h ks → length ks < n) → Behind arch h h → ⊥
+pub no_cycle : (arch : Arch) (n h : ℕ) → ((ks : List ℕ) → LeadsAlong arch h ks → length ks < n) → Behind arch h h → ⊥
 no_cycle arch zero h short b = nothing (short [] tt)
   where
     nothing : 0 < 0 → ⊥
@@ -36,7 +36,7 @@ no_cycle arch (suc n) h short b =
     omega (arith, one, two)) b
 
 -- a walk from a reached handler is the end of one from a source
-walk_to : (arch : Arch) (s : ℕ) → s < length arch.sources → (h : ℕ) → Reaches arch s h → (ks : List ℕ) → LeadsAlong arch h ks → (hs : List ℕ) × IsWalk arch hs × (length ks < length hs)
+pub walk_to : (arch : Arch) (s : ℕ) → s < length arch.sources → (h : ℕ) → Reaches arch s h → (ks : List ℕ) → LeadsAlong arch h ks → (hs : List ℕ) × IsWalk arch hs × (length ks < length hs)
 walk_to arch s lt h (begins k c) ks along = (k ∷ ks, (record { source = s; exists = lt; on = c }, along), omega arith)
 walk_to arch s lt h (goes g k r led) ks along =
     let w = walk_to arch s lt g r (k ∷ ks) (led, along) in

@@ -1,5 +1,5 @@
 -- How the code of a task is planned: where the code of each handler stands, and what its sections do.
-use Rattle.std.specs.Prelude.{◌≡◌, ◌^◌, ℕ, ◌+◌, ◌<◌, ◌≤◌, List, [], length, Some, None, slice_get, Contains}
+use Rattle.std.specs.Prelude.{◌≡◌, ◌^◌, ℕ, ◌+◌, ◌<◌, ◌≤◌, List, [], length, true, Some, None, slice_get, Contains}
 use Rattle.tower_types.specs.Value.{Value, flat}
 use Rattle.tower_syntax.specs.declared.arch.On.TheVariants as on
 use Rattle.tower_syntax.specs.declared.arch.Listener.TheVariants as to
@@ -8,7 +8,6 @@ use Rattle.tower_syntax.specs.Graph.{handler, subs, Reaches, reached_by}
 use Rattle.tower_syntax.specs.Weights.{section, message_words}
 use Rattle.tower_meaning.specs.Fits.{fits_item}
 use Rattle.task_code.specs.declared.program.Task.{Task}
-use Rattle.task_code.specs.declared.frame.Frame.{Frame}
 use Rattle.task_code.specs.Program.{Program}
 use Rattle.task_code.specs.Own.{Own}
 use Rattle.task_code.specs.Formed.{HoldWords, IsFormed}
@@ -20,7 +19,7 @@ use Rattle.stmt_code.specs.FrameOf.{frame_of}
 use Rattle.stmt_code.specs.Section.{section_code}
 use Rattle.emit_code.specs.Delivery.{Entry}
 use Rattle.emit_code.specs.Entries.{frame_in, place_in, InOwn, OwnBuffers, IsFramed, Entered}
-use Rattle.task_build.specs.CodeOf.{frames_from, handler_code, head_code, taken_at, entries_from, unplaced}
+use Rattle.task_build.specs.CodeOf.{handler_code, head_code}
 
 -- what is known of a task's entries before any run
 pub record Planned (arch : Arch) (p : Program) (t : Task) (x : ℕ) (entries : List Entry) : Type 0 where
@@ -78,16 +77,6 @@ pub record IsDelivered (arch : Arch) (p : Program) (t : Task) (x : ℕ) : Type 0
   pub planned : Planned arch p t x entries
   pub headed : Headed arch t x entries
   pub sections : (h : ℕ) → Reaches arch x h → SectionRuns arch p t x entries h
-
--- the entries of the task of source x in the program of a system, and where it takes messages
-abbrev pub known_of : Arch → ℕ → List Entry
-known_of arch x = unplaced (reached_by arch x) (frames_from arch 0 0 (reached_by arch x))
-
-abbrev pub taken_of : Arch → ℕ → ℕ
-taken_of arch x = taken_at (known_of arch x) (subs arch (on.Source x))
-
-abbrev pub entries_of : Arch → ℕ → List Entry
-entries_of arch x = entries_from arch (known_of arch x) (end 0 (head_code arch (known_of arch x) x (taken_of arch x) (message_words arch (on.Source x)))) (reached_by arch x) (frames_from arch 0 0 (reached_by arch x))
 
 -- the bounds of emitters are 64-bit numbers, and so is one more
 abbrev pub HasSmallBounds : Arch → Type 0

@@ -16,10 +16,11 @@ use Rattle.task_alone.proofs.Lists.{get_within}
 use Rattle.arch_checks.specs.Laws.{IsSafe}
 use Rattle.task_build.proofs.Frames.{laid_within, inner}
 use Rattle.emit_code.specs.Entries.{HasParts}
-use Rattle.task_build.proofs.Kept.{KeepsNumbers}
+use Rattle.arch_checks.specs.Kept.{KeepsNumbers}
 use Rattle.task_code.proofs.Lists.{cons_sum as sum_cons}
-use Rattle.task_build.proofs.Goods.{AreGood, good_message, good_states}
-use Rattle.task_build.proofs.Layouts.{IsWide, IsLaid}
+use Rattle.arch_checks.proofs.Goods.{AreGood, good_message, good_states}
+use Rattle.arch_checks.specs.Wide.{IsWide}
+use Rattle.task_build.proofs.Layouts.{IsLaid}
 
 -- ---- lists of shapes
 

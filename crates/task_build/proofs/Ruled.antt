@@ -31,13 +31,14 @@ use Rattle.channel_graph.proofs.Members.{In, filter_has, In-from_contains, conta
 use Rattle.channel_graph.proofs.Linked.{Link, link_of, of_link}
 use Rattle.channel_graph.proofs.Closed.{listed_is_reached}
 use Rattle.arch_types.specs.Scalars.{AreProperStmts}
-use Rattle.arch_order.proofs.Lists.{AllOf, all_both, each_element}
+use Rattle.arch_types.proofs.Lists.{AllOf, all_both, each_element}
 use Rattle.arch_checks.specs.declared.fault.What.TheVariants as what
 use Rattle.arch_checks.specs.Laws.{IsSafe}
 use Rattle.arch_checks.specs.Offences.{IsAccepted}
 use Rattle.arch_checks.proofs.Accepted.{safe}
 use Rattle.emit_code.specs.Entries.{frame_in, place_in}
-use Rattle.task_build.proofs.Planned.{Planned, Headed, known_of, taken_of, entries_of}
+use Rattle.task_build.proofs.Planned.{Planned, Headed}
+use Rattle.task_build.specs.TaskEntries.{known_of, taken_of, entries_of}
 use Rattle.emit_code.proofs.Listed.{exists, same_on_channel, get_in}
 use Rattle.task_build.proofs.Frames.{inner}
 use Rattle.emit_code.specs.Entries.{HasParts}
@@ -45,13 +46,13 @@ use Rattle.task_build.proofs.Headed.{same_on_source}
 use Rattle.task_build.proofs.Laid.{grows as frames_grow}
 use Rattle.task_build.proofs.Placed.{Alike, placed_alike, handler_end, head_end}
 use Rattle.task_build.proofs.Coded.{planned, headed}
-use Rattle.task_build.proofs.Kept.{KeepsNumbers}
+use Rattle.arch_checks.specs.Kept.{KeepsNumbers}
 use Rattle.task_code.proofs.Pieces.{end_is}
 use Rattle.task_code.proofs.Lists.{cons_sum as sum_cons}
 use Rattle.task_build.proofs.Typing.{typed_handler}
 use Rattle.task_build.proofs.Weighed.{task_within, words_within, instructions_within}
-use Rattle.task_build.proofs.Ranged.{keeps_numbers}
-use Rattle.task_build.proofs.Goods.{each_of, times, full_words, good_message, AreGood, HasGoodNames, good_handlers}
+use Rattle.arch_types.proofs.Lists.{each_of}
+use Rattle.arch_checks.proofs.Goods.{times, full_words, good_message, AreGood, HasGoodNames, good_handlers}
 use Rattle.task_build.proofs.Closing.{each_handler, small_bounds}
 use Rattle.task_build.proofs.Layouts.{IsLaid}
 use Rattle.task_build.proofs.Fine.{grows, number_pushed, Fine, fine_listed}
@@ -433,4 +434,4 @@ module _ (arch : Arch) (safe_arch : IsSafe arch) (keeps : KeepsNumbers arch) whe
       }
 
 pub rules_kept : (bs : List ℕ) (arch : Arch) → IsAccepted bs arch → KeepsRules (code_of arch)
-rules_kept bs arch accepted = rules arch (safe bs arch accepted) (keeps_numbers bs arch accepted)
+rules_kept bs arch accepted = let s : IsSafe arch = safe bs arch accepted in rules arch s s.numbers

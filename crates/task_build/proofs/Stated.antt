@@ -15,8 +15,9 @@ use Rattle.stmt_code.specs.Body.{expr_code, index_code, place_moves, before_valu
 use Rattle.task_code.specs.Emission.{emission}
 use Rattle.arch_types.specs.Scalars.{IsProperExpr, IsProperPlace, IsProperStmt, AreProperStmts}
 use Rattle.task_build.proofs.Typing.{shape_is}
-use Rattle.task_build.proofs.Layouts.{IsWide, IsLaid}
-use Rattle.task_build.proofs.Goods.{wide_words}
+use Rattle.arch_checks.specs.Wide.{IsWide}
+use Rattle.task_build.proofs.Layouts.{IsLaid}
+use Rattle.arch_checks.proofs.Goods.{wide_words}
 use Rattle.task_build.proofs.Fine.{grows, number_pushed, Fine, before_fine, behind_fine, zeroed_fine, kept_fine, IsMoved, copied_fine, emission_fine, IsSpot, IsStanding, stands, wide_root, expr_fine, steps_fine}
 
 module _ (p : Program) (t : Task) (w : Layout) (laid : IsLaid p t w) where

@@ -19,9 +19,9 @@ typed_handler arch typed h = looked arch.handlers h typed.handlers
     none = record { names = All-nil _; callbacks = All-nil _ }
 
     looked : (hs : List Handler) (h : ℕ) → All (IsTypedHandler arch) hs → IsTypedHandler arch (slice_index_or hs h no_handler)
-    looked [] h all = none
-    looked (q ∷ hs) zero all = All-head (IsTypedHandler arch) q hs all
-    looked (q ∷ hs) (suc h) all = looked hs h (All-tail (IsTypedHandler arch) q hs all)
+    looked [] h each = none
+    looked (q ∷ hs) zero each = All-head (IsTypedHandler arch) q hs each
+    looked (q ∷ hs) (suc h) each = looked hs h (All-tail (IsTypedHandler arch) q hs each)
 
 -- steps that are typed lead to the shape that they have
 leads_shape : (scope : Scope) (names : Names) (steps : Steps) (s t : Shape) → Leads scope names s steps t → steps_shape s steps ≡ t

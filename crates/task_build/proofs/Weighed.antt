@@ -2,21 +2,21 @@
 use Rattle.std.proofs.Common.{◌≡◌, ℕ, zero, suc, ◌+◌, ◌*◌, ◌≤◌, List, [], ◌∷◌, ◌++◌, length, map, Bool, true, false, refl, sym, ap, ◌∙◌, subst, arith, inl, inr, slice_index_or, ◌==◌}
 use Rattle.std.specs.Prelude.{sum}
 use Rattle.tower_types.specs.declared.scalar.Scalar.TheVariants as scalar
-use Rattle.tower_types.specs.Ty.{scalar as scalar_type, Fields, shape_in, table_of, words}
+use Rattle.tower_types.specs.Ty.{scalar as scalar_type, shape_in, table_of, words}
 use Rattle.tower_syntax.specs.declared.arch.On.TheVariants as on
 use Rattle.tower_syntax.specs.declared.arch.Listener.{Listener}
 use Rattle.tower_syntax.specs.declared.arch.Listener.TheVariants as to
-use Rattle.tower_syntax.specs.Arch.{Arch, Source, Emitter, Body, Handler}
+use Rattle.tower_syntax.specs.Arch.{Arch, Source, Emitter}
 use Rattle.tower_syntax.specs.Graph.{handler, subs, reached_by, numbers_before}
-use Rattle.tower_syntax.specs.Weights.{source_message, message_words, emitter_words, field_shapes, handler_memory, source_memory, source_numbers, memory, code, source_code, standing, scope_of, stmts_weight, subscribers_weight, handler_code as handler_weight}
+use Rattle.tower_syntax.specs.Weights.{source_message, message_words, emitter_words, handler_memory, source_memory, source_numbers, memory, code, source_code, subscribers_weight, handler_code as handler_weight}
 use Rattle.task_code.specs.declared.program.Buffer.{Buffer}
 use Rattle.task_code.specs.declared.program.Task.{Task}
 use Rattle.task_code.specs.Rules.{task_words, all_words, all_instructions}
-use Rattle.task_code.specs.Piece.{Piece, nil, ins, ◌▸◌, end, joined}
+use Rattle.task_code.specs.Piece.{Piece, nil, ◌▸◌, end, joined}
 use Rattle.task_code.specs.declared.frame.Frame.{Frame}
-use Rattle.stmt_code.specs.FrameOf.{binder_words, binders_of, frame_of}
+use Rattle.stmt_code.specs.FrameOf.{binders_of, frame_of}
 use Rattle.task_build.specs.CodeOf.{frames_from, end_of, handler_code, words_passed, call_code, head_code, taken_at, entries_from, handlers_code, unplaced, buffers_of, all_buffers, task_of, tasks_from, code_of}
-use Rattle.emit_code.specs.Delivery.{Entry, entry_of, delivery_code}
+use Rattle.emit_code.specs.Delivery.{Entry, entry_of}
 use Rattle.stmt_code.specs.Section.{section_code}
 use Rattle.lock_reduction.specs.Shaped.{priority_and_words, buffer_table, BeginsWithTake, Shaped}
 use Rattle.channel_graph.proofs.Members.{In}

@@ -1,16 +1,35 @@
 //! What holds of the program of each accepted system. Each body is empty: the contract is the law.
 
-ghost use Rattle.task_build.specs.Laws.{ProgramsAreSound, ProgramsAreAlone, ProgramsKeepRules, EventsFit, ProgramsAreShaped};
+ghost use Rattle.task_build.specs.WorkedPrograms.{WorkedPrograms};
+ghost use Rattle.task_build.specs.Laws.{ProgramsAreSound, ProgramsAreAlone, ProgramsKeepRules, PlacesAreSmall, EventsFit, ProgramsAreShaped, TasksAreFramed, EntriesCarry};
 
-/// The headline: the program of each accepted system is sound, with no condition left.
+/// The headline: the program of each accepted system is sound, with no condition left. Each of its tasks is right alone,
+/// it keeps the rules of programs, and no place in its code is above the limit on instructions.
 pub fn programs_are_sound()
     ensures sound { ProgramsAreSound }
     ensures alone { ProgramsAreAlone }
-    ensures shaped { ProgramsAreShaped }
     ensures rules { ProgramsKeepRules }
+    ensures places { PlacesAreSmall }
+{}
+
+/// The program of any system has its shape, with words and instructions within the weights.
+pub fn programs_are_shaped()
+    ensures { ProgramsAreShaped }
+{}
+
+/// In each task of the program of an accepted system the handlers that its source reaches have frames and buffers of
+/// their own, and each entry carries out its item within the weight `deliver`.
+pub fn entries_carry()
+    ensures framed { TasksAreFramed }
+    ensures carry { EntriesCarry }
 {}
 
 /// What fits an accepted system fits its program, so a machine can be made for each record that fits.
 pub fn events_fit()
     ensures { EventsFit }
+{}
+
+/// Worked programs: of one handler with a state, of one that tells two outputs, of one with two emitters, and of a diamond.
+pub fn worked_programs()
+    ensures { WorkedPrograms }
 {}

@@ -1,6 +1,6 @@
 -- The code of an emission puts the words into the buffer as its next message, and changes nothing else.
-use Rattle.std.proofs.Common.{◌≡◌, ◌∙◌, ℕ, zero, suc, ◌+◌, ◌-◌, ◌*◌, ◌<◌, ◌≤◌, ℤ, pos, List, [], ◌∷◌, ◌++◌, length, take, drop, Some, refl, sym, ap, subst, arith, append_assoc, slice_get, slice_set, slice_index_or, get_or-set_same, length-set}
-use Rattle.std.proofs.lemmas.List.{append-nil, length-append, length-take-le, length-drop}
+use Rattle.std.proofs.Common.{◌≡◌, ◌∙◌, ℕ, zero, suc, ◌+◌, ◌-◌, ◌*◌, ◌<◌, ◌≤◌, ℤ, pos, List, [], ◌∷◌, ◌++◌, length, take, drop, Some, refl, sym, ap, subst, arith, append_assoc, slice_get, slice_set, get_or-set_same, length-set}
+use Rattle.std.proofs.lemmas.List.{length-append, length-take-le, length-drop}
 use Rattle.std.proofs.lemmas.Option.{slice_get-get_or, slice_get_within}
 use Rattle.task_code.specs.declared.program.Buffer.{Buffer}
 use Rattle.task_code.specs.declared.program.Task.{Task}
@@ -9,9 +9,9 @@ use Rattle.task_code.specs.Own.{Filled, Own}
 use Rattle.task_code.specs.Does.{Private, does, word_at, slot, with_word, with_count}
 use Rattle.task_code.specs.Leads.{Leads, at}
 use Rattle.task_code.specs.Formed.{IsFormedBuffer}
-use Rattle.task_code.specs.Piece.{end, listed, Stands}
+use Rattle.task_code.specs.Piece.{end, Stands}
 use Rattle.task_code.specs.Emission.{words_put, emission}
-use Rattle.task_code.specs.Emitting.{with_message, emitted, EmissionEmits, EmissionIsShort}
+use Rattle.task_code.specs.Emitting.{with_message, EmissionEmits, EmissionIsShort}
 use Rattle.task_code.proofs.Leads as leads
 use Rattle.task_code.proofs.Lists.{set_same, set_twice, set_as_was}
 use Rattle.task_code.proofs.Pieces.{size, size_is}
@@ -96,31 +96,34 @@ module _ (p : Program) (t : Task) (scratch b : ℕ) (s : Buffer) (is : slice_get
       (leads.then_on p t 1 (3 * length xs) o2 o3 last (leads.once p t o2 o3 (leads.bput p t o (suc (suc a)) st b s f is has j x h.1.1.0 lc (omega arith))) rest)))
       (omega arith))
 
+  -- a message that stands from scratch on becomes the next one of the buffer
+  pub emission_leads : (xs : List ℤ) (o : Own) (f : Filled) → slice_get o.buffers b ≡ Some f → IsFormedBuffer s f → f.count < s.bound → s.width ≡ length xs → ((i : ℕ) → i < length xs → word_at o.words (scratch + i) ≡ word_at xs i)
+      → length o.stack + 2 ≤ 64 → Stands t.code o.place (emission scratch b (length xs))
+      → Leads p t (3 * length xs + 1) o (record o { place = end o.place (emission scratch b (length xs)); buffers = slice_set o.buffers b (with_message f xs) })
+  emission_leads xs o f has formed below wide same stack h =
+      let slots : length f.slots ≡ s.bound = formed.slots in
+      let there : b < length o.buffers = slice_get_within o.buffers b f has in
+      let old : length (slot f f.count) ≡ s.width = formed.wide f.count (slot f f.count) (slice_get-get_or f.slots f.count [] (omega (arith, slots, below))) in
+      let put = puts xs o f 0 o.place o.stack has there below (omega (arith, slots, below)) (omega (arith, wide))
+      (λ i lt. let z : 0 + i ≡ i = omega arith in ap (λ k. word_at o.words (scratch + k)) z ∙ same i lt) stack h.0 in
+      let whole : written (slot f f.count) 0 xs ≡ xs = written_all xs [] (slot f f.count) (omega (arith, old, wide)) in
+      let f' : Filled = with_slot f xs in
+      let o' : Own = with_buffer o f' in
+      let mid : ℕ = end o.place (words_put scratch b 0 (length xs)) in
+      let moved : Leads p t (3 * length xs) o (at o' mid o.stack) = subst (λ ws. Leads p t (3 * length xs) o (at (with_buffer o (with_slot f ws)) mid o.stack)) whole put in
+      let counted : Own = at (record o' { buffers = slice_set o'.buffers b (with_count f' (suc f'.count)) }) (suc mid) o.stack in
+      let once : Leads p t 1 (at o' mid o.stack) counted = leads.once p t (at o' mid o.stack) counted (leads.badd p t o' mid o.stack b s f' is (set_same o.buffers b f' there) h.1 below) in
+      subst (λ bs. Leads p t (3 * length xs + 1) o (record o { place = suc mid; buffers = bs })) (set_twice o.buffers b f' (with_message f xs))
+      (leads.then_on p t (3 * length xs) 1 o (at o' mid o.stack) counted moved once)
+
 pub emits : EmissionEmits
 emits p t scratch buffer width s f o is wide has formed below room stack h =
     let message : List ℤ = take width (drop scratch o.words) in
     let dropped : length (drop scratch o.words) ≡ length o.words - scratch = length-drop scratch o.words in
     let long : length message ≡ width = length-take-le width (drop scratch o.words) (omega (arith, dropped, room)) in
-    let slots : length f.slots ≡ s.bound = formed.slots in
-    let there : buffer < length o.buffers = get_below o.buffers buffer f has in
-    let old : length (slot f f.count) ≡ s.width = formed.wide f.count (slot f f.count) (slice_get-get_or f.slots f.count [] (omega (arith, slots, below))) in
-    let put = puts p t scratch buffer s is message o f 0 o.place o.stack has there below (omega (arith, slots, below)) (omega (arith, long, wide))
-    (λ i lt. let z : 0 + i ≡ i = omega arith in ap (λ k. word_at o.words (scratch + k)) z ∙ get_from o.words scratch width i (omega (arith, long, lt)) room) (omega (arith, stack))
-    (subst (λ n. Stands t.code o.place (words_put scratch buffer 0 n)) (sym long) h.0) in
-    let whole : written (slot f f.count) 0 message ≡ message = written_all message [] (slot f f.count) (omega (arith, old, long, wide)) in
-    let f' : Filled = record f { slots = slice_set f.slots f.count message } in
-    let o' : Own = record o { buffers = slice_set o.buffers buffer f' } in
-    let mid : ℕ = end o.place (words_put scratch buffer 0 width) in
-    let moved : Leads p t (3 * width) o (at o' mid o.stack) =
-    subst (λ n. Leads p t (3 * n) o (at o' (end o.place (words_put scratch buffer 0 n)) o.stack)) long
-    (subst (λ ws. Leads p t (3 * length message) o (at (record o { buffers = slice_set o.buffers buffer (record f { slots = slice_set f.slots f.count ws }) }) (end o.place (words_put scratch buffer 0 (length message))) o.stack)) whole put) in
-    let counted : Own = at (record o' { buffers = slice_set o'.buffers buffer (with_count f' (suc f'.count)) }) (suc mid) o.stack in
-    let once : Leads p t 1 (at o' mid o.stack) counted = leads.once p t (at o' mid o.stack) counted (leads.badd p t o' mid o.stack buffer s f' is (set_same o.buffers buffer f' there) h.1 below) in
-    subst (λ bs. Leads p t (3 * width + 1) o (record o { place = suc mid; buffers = bs })) (set_twice o.buffers buffer f' (with_message f message))
-    (leads.then_on p t (3 * width) 1 o (at o' mid o.stack) counted moved once)
-  where
-    get_below : {X : Type 0} (xs : List X) (i : ℕ) (v : X) → slice_get xs i ≡ Some v → i < length xs
-    get_below xs i v e = slice_get_within xs i v e
+    subst (λ n. Leads p t (3 * n + 1) o (record o { place = end o.place (emission scratch buffer n); buffers = slice_set o.buffers buffer (with_message f message) })) long
+    (emission_leads p t scratch buffer s is message o f has formed below (omega (arith, long, wide)) (λ i lt. get_from o.words scratch width i (omega (arith, long, lt)) room) (omega (arith, stack))
+    (subst (λ n. Stands t.code o.place (emission scratch buffer n)) (sym long) h))
 
 put_size : (n a buffer j : ℕ) → size (words_put a buffer j n) ≡ 3 * n
 put_size zero a buffer j = refl

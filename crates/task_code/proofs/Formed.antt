@@ -1,5 +1,5 @@
 -- A task's own part, as it stands at a place.
-use Rattle.std.proofs.Common.{◌≡◌, ◌∙◌, ℕ, List, [], length, ap, sym, slice_get}
+use Rattle.std.proofs.Common.{◌≡◌, ◌∙◌, ℕ, [], length, ap, sym, slice_get}
 use Rattle.task_code.specs.declared.program.Task.{Task}
 use Rattle.task_code.specs.Own.{Own}
 use Rattle.task_code.specs.Leads.{at}

@@ -1,5 +1,5 @@
 -- How many instructions a piece has, and where it ends.
-use Rattle.std.proofs.Common.{◌≡◌, ℕ, suc, ◌+◌, ◌++◌, length, refl, arith, length-append}
+use Rattle.std.proofs.Common.{◌≡◌, ℕ, ◌+◌, ◌++◌, length, refl, arith, length-append}
 use Rattle.task_code.specs.Piece.{Piece, nil, ins, ◌▸◌, end, listed}
 
 abbrev pub size : Piece → ℕ

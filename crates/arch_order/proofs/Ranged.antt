@@ -1,8 +1,9 @@
--- The numbers of a text that is read are in their ranges, and each record has a field: kept by the tree of a text, linked, and checked.
-use Rattle.std.proofs.Common.{◌≡◌, ℕ, suc, ◌+◌, ◌<◌, ◌≤◌, ◌&&◌, List, [], ◌∷◌, map, length, filter_map, Bool, true, false, cond, Option, Some, None, find, refl, sym, ap, subst, arith, leb, leb-true, bytes_eq, All}
+-- The numbers of a text that is read are in their ranges, and each record has a field: so they are in its tree, and in the linked tree.
+use Rattle.std.proofs.Common.{◌≡◌, ℕ, suc, ◌+◌, ◌<◌, ◌≤◌, ◌&&◌, List, [], ◌∷◌, map, length, filter_map, Bool, true, false, cond, Option, Some, None, find, refl, sym, ap, subst, arith, leb, leb-true, bytes_eq}
 use Rattle.std.specs.List.{cons_option}
 use Rattle.std.proofs.lemmas.List.{get_or_past, length-map}
 use Rattle.tower_sexp.specs.Trees.{Tree, atom, list, Trees}
+use Rattle.tower_syntax.specs.declared.named.Target.{Target}
 use Rattle.tower_syntax.specs.RawTree.{Id, Link, RawField, RawHpart, emitter, callback, RawPart, state, handler, RawItem, fields, init, period, signal, channel, output, monitor, Raw}
 use Rattle.tower_syntax.specs.Words.{IsWithin, IsPeriod, IsDepth, IsBound}
 use Rattle.tower_reader.specs.declared.table.Place.{Place}
@@ -16,38 +17,17 @@ use Rattle.tower_reader.specs.declared.table.PartRow.TheVariants as part
 use Rattle.tower_reader.specs.Table.{atoms_at, rule, rows, head, row_of, place_at, count_fits}
 use Rattle.tower_reader.specs.Part.{Part, a_number, a_tower, as_number, as_tower, if_field, if_hpart, if_part, if_item, first, second, third, fourth, rest, build}
 use Rattle.tower_reader.specs.Spelled.{count, fitting, Reads, names, names_place, names_record, names_value, says_scalar, says_truth, counts, counts_literal, has_row, ReadsAll, no_more, one_more, Spells}
-use Rattle.arch_names.specs.Site.{Site}
-use Rattle.tower_syntax.specs.declared.named.Target.{Target}
 use Rattle.arch_names.specs.declared.names.Thing.{Thing}
 use Rattle.arch_names.specs.Names.{Find, find as find_name}
 use Rattle.arch_names.specs.Sets.{declared_in, states_of}
+use Rattle.arch_names.specs.Site.{Site}
 use Rattle.arch_names.specs.Sites.{Around, around}
 use Rattle.arch_names.specs.Linked.{linked_field, linked_hpart, linked_part, linked_item}
 use Rattle.arch_names.specs.Resolved.{IsLinked}
-use Rattle.arch_types.specs.Outline.{each, field, record_of, source_of, outline, Written, written_of, handlers_from, handlers_of, emitter_of}
-use Rattle.arch_types.specs.File.{AreHandlers}
-use Rattle.arch_order.proofs.Lists.{AllOf, all_both, all_more, found, each_element}
-use Rattle.arch_checks.specs.Offences.{IsAccepted}
-use Rattle.tower_syntax.specs.Arch.{Arch, Source, Emitter, Handler}
-use Rattle.task_build.proofs.Kept.{IsKind, IsSomeDepth, KeepsNumbers}
+use Rattle.arch_types.proofs.Ranged.{HpartRanged, PartRanged, ItemRanged}
+use Rattle.arch_order.proofs.Lists.{AllOf, found}
 
--- ---- of trees
-
-module _ {U : Type 0} where
-  abbrev pub HpartRanged : RawHpart U → Type 0
-  HpartRanged (emitter at x u n) = IsBound n
-  HpartRanged (callback at x ss) = Unit {0}
-
-  abbrev pub PartRanged : RawPart U → Type 0
-  PartRanged (state at x t) = Unit {0}
-  PartRanged (handler at x u hs) = AllOf HpartRanged hs
-
-  abbrev pub ItemRanged : RawItem U → Type 0
-  ItemRanged (fields at x fs) = 0 < length fs
-  ItemRanged (period at x ms p d) = IsPeriod ms × IsSomeDepth d
-  ItemRanged (signal at x t p d) = IsSomeDepth d
-  ItemRanged (monitor at x ps) = AllOf PartRanged ps
-  ItemRanged _ = Unit {0}
+-- ---- what is read
 
 abbrev Just : {X : Type 0} → (X → Type 0) → Option X → Type 0
 Just P None = ⊥
@@ -231,7 +211,7 @@ mutual
   nodes_ranged r i ts xs (no_more q j) = tt
   nodes_ranged r i ts xs (one_more q j t us p ps s more) = (node_ranged (place_at q j) t p s, nodes_ranged q (j + 1) us ps more)
 
-read_ranged : (bs : List ℕ) (raw : Raw Id) → Spells bs raw → AllOf ItemRanged raw.items
+pub read_ranged : (bs : List ℕ) (raw : Raw Id) → Spells bs raw → AllOf ItemRanged raw.items
 read_ranged bs raw s = node_ranged place.Tower s.node (a_tower raw) s.reads
 
 -- ---- linked
@@ -257,75 +237,5 @@ module _ (m : Site → Target) (file : Find Thing) where
   items_linked (output at x u ∷ items) h = (tt, items_linked items h.1)
   items_linked (monitor at x ps ∷ items) h = (parts_linked (find_name (states_of ps)) ps h.0, items_linked items h.1)
 
-linked_ranged : (raw : Raw Id) (t : Raw Link) → IsLinked raw t → AllOf ItemRanged raw.items → AllOf ItemRanged t.items
+pub linked_ranged : (raw : Raw Id) (t : Raw Link) → IsLinked raw t → AllOf ItemRanged raw.items → AllOf ItemRanged t.items
 linked_ranged raw t l h = subst (λ t. AllOf ItemRanged t.items) (sym l.2) (items_linked l.0 (find_name (declared_in raw.items)) raw.items h)
-
--- ---- checked
-
-records_ranged : (items : List (RawItem Link)) → AllOf ItemRanged items → AllOf (λ fs. 0 < length fs) (each record_of items)
-records_ranged [] h = tt
-records_ranged (fields at x fs ∷ items) h = (subst (λ n. 0 < n) (sym (length-map fs field)) h.0, records_ranged items h.1)
-records_ranged (init at x p ∷ items) h = records_ranged items h.1
-records_ranged (period at x ms p d ∷ items) h = records_ranged items h.1
-records_ranged (signal at x t p d ∷ items) h = records_ranged items h.1
-records_ranged (channel at x t ∷ items) h = records_ranged items h.1
-records_ranged (output at x u ∷ items) h = records_ranged items h.1
-records_ranged (monitor at x ps ∷ items) h = records_ranged items h.1
-
-abbrev SourceRanged : Source → Type 0
-SourceRanged s = IsKind s.kind × IsSomeDepth s.depth
-
-sources_ranged : (items : List (RawItem Link)) → AllOf ItemRanged items → AllOf SourceRanged (each source_of items)
-sources_ranged [] h = tt
-sources_ranged (fields at x fs ∷ items) h = sources_ranged items h.1
-sources_ranged (init at x p ∷ items) h = ((tt, tt), sources_ranged items h.1)
-sources_ranged (period at x ms p d ∷ items) h = (h.0, sources_ranged items h.1)
-sources_ranged (signal at x t p d ∷ items) h = ((tt, h.0), sources_ranged items h.1)
-sources_ranged (channel at x t ∷ items) h = sources_ranged items h.1
-sources_ranged (output at x u ∷ items) h = sources_ranged items h.1
-sources_ranged (monitor at x ps ∷ items) h = sources_ranged items h.1
-
-abbrev WrittenRanged : Written → Type 0
-WrittenRanged w = AllOf HpartRanged w.parts
-
-written_ranged : (k : ℕ) (ps : List (RawPart Link)) → AllOf PartRanged ps → AllOf WrittenRanged (each (written_of k) ps)
-written_ranged k [] h = tt
-written_ranged k (state at x t ∷ ps) h = written_ranged k ps h.1
-written_ranged k (handler at x u hs ∷ ps) h = (h.0, written_ranged k ps h.1)
-
-handlers_ranged : (items : List (RawItem Link)) (k : ℕ) → AllOf ItemRanged items → AllOf WrittenRanged (handlers_from k items)
-handlers_ranged [] k h = tt
-handlers_ranged (fields at x fs ∷ items) k h = handlers_ranged items k h.1
-handlers_ranged (init at x p ∷ items) k h = handlers_ranged items k h.1
-handlers_ranged (period at x ms p d ∷ items) k h = handlers_ranged items k h.1
-handlers_ranged (signal at x t p d ∷ items) k h = handlers_ranged items k h.1
-handlers_ranged (channel at x t ∷ items) k h = handlers_ranged items k h.1
-handlers_ranged (output at x u ∷ items) k h = handlers_ranged items k h.1
-handlers_ranged (monitor at x ps ∷ items) k h = all_both WrittenRanged (each (written_of k) ps) (handlers_from (k + 1) items) (written_ranged k ps h.0) (handlers_ranged items (k + 1) h.1)
-
-abbrev EmittersRanged : List Emitter → Type 0
-EmittersRanged es = AllOf (λ e. IsBound e.bound) es
-
-emitters_ranged : (hs : List (RawHpart Link)) → AllOf HpartRanged hs → EmittersRanged (each emitter_of hs)
-emitters_ranged [] h = tt
-emitters_ranged (emitter at x u n ∷ hs) h = (h.0, emitters_ranged hs h.1)
-emitters_ranged (callback at x ss ∷ hs) h = emitters_ranged hs h.1
-
-checked_ranged : (arch : Arch) (ws : List Written) (hs : List Handler) → AreHandlers arch ws hs → AllOf WrittenRanged ws → AllOf (λ h. All (λ e. IsBound e.bound) h.emitters) hs
-checked_ranged arch [] [] are h = tt
-checked_ranged arch [] (q ∷ hs) are h = absurd are
-checked_ranged arch (w ∷ ws) [] are h = absurd are
-checked_ranged arch (w ∷ ws) (q ∷ hs) are h = (subst (λ es. All (λ e. IsBound e.bound) es) (sym are.0.emitters) (each_element (λ e. IsBound e.bound) (each emitter_of w.parts) (emitters_ranged w.parts h.0)), checked_ranged arch ws hs are.1 h.1)
-
--- what an accepted system keeps
-pub keeps_numbers : (bs : List ℕ) (arch : Arch) → IsAccepted bs arch → KeepsNumbers arch
-keeps_numbers bs arch h =
-    let s = h.system in
-    let items : AllOf ItemRanged s.named.items = linked_ranged s.is.raw s.named s.is.linked (read_ranged bs s.is.raw s.is.spelled) in
-    let sources : AllOf SourceRanged arch.sources = subst (λ a. AllOf SourceRanged a.sources) (sym s.checked.outlined) (sources_ranged s.named.items items) in
-    record {
-      records = subst (λ a. All (λ fs. 0 < length fs) a.records) (sym s.checked.outlined) (each_element (λ fs. 0 < length fs) (each record_of s.named.items) (records_ranged s.named.items items));
-      kinds = each_element (λ q. IsKind q.kind) arch.sources (all_more SourceRanged (λ q. IsKind q.kind) (λ q r. r.0) arch.sources sources);
-      depths = each_element (λ q. IsSomeDepth q.depth) arch.sources (all_more SourceRanged (λ q. IsSomeDepth q.depth) (λ q r. r.1) arch.sources sources);
-      bounds = each_element (λ q. All (λ e. IsBound e.bound) q.emitters) arch.handlers (checked_ranged (outline s.named) (handlers_of s.named) arch.handlers s.checked.handlers (handlers_ranged s.named.items 0 items));
-    }

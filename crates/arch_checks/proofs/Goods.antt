@@ -1,7 +1,6 @@
 -- The shapes of an accepted system are proper, have a field in each record, and are few words wide.
-use Rattle.std.proofs.Common.{ℕ, zero, suc, ◌*◌, ◌<◌, ◌≤◌, List, [], ◌∷◌, ◌++◌, length, map, All, refl, sym, subst, arith, slice_index_or}
+use Rattle.std.proofs.Common.{ℕ, zero, suc, ◌*◌, ◌<◌, ◌≤◌, List, [], ◌∷◌, ◌++◌, length, map, All, refl, sym, subst, arith}
 use Rattle.std.proofs.Math.Nat.{mul-le-mul_right}
-use Rattle.std.proofs.lemmas.List.Elements.{All-head, All-tail}
 use Rattle.tower_types.specs.declared.scalar.Scalar.TheVariants.{I64}
 use Rattle.tower_types.specs.Ty.{Ty, scalar, array, rec, Fields, NamesBelow, Shape, one, many, all, no_shapes, shape, shapes_of, shape_in, table_of, words, depth}
 use Rattle.tower_types.specs.Records.{IsTypeAmong}
@@ -14,30 +13,15 @@ use Rattle.tower_syntax.specs.Arch.{Arch, Source, Body, Handler}
 use Rattle.tower_syntax.specs.WellNumbered.{IsNumberedType, IsNumberedSource, IsNumberedBody, IsNumberedHandler, AreNumberedFields}
 use Rattle.tower_syntax.specs.Typed.{IsProper, IsProperType, HasItsMessage, IsTypedHandler, AreProperFields}
 use Rattle.tower_syntax.specs.Weights.{message_on, states_of}
-use Rattle.task_alone.proofs.Lists.{all_at, get_within}
 use Rattle.arch_types.specs.Outline.{each}
-use Rattle.arch_order.proofs.Lists.{AllOf, all_left, all_right, each_element}
+use Rattle.arch_types.proofs.Lists.{AllOf, all_left, all_right, each_element, all_at, get_within, zipped, looked}
+pub use Rattle.arch_types.proofs.Lists.{each_of}
 use Rattle.arch_checks.specs.declared.fault.What.TheVariants as what
 use Rattle.arch_checks.specs.Sizes.{types_of, types_of_fields, bound_types, shapes}
 use Rattle.arch_checks.specs.Laws.{IsSafe}
 use Rattle.arch_checks.proofs.Lists.{map_all, below_greatest}
-use Rattle.task_build.proofs.Kept.{KeepsNumbers}
-use Rattle.task_build.proofs.Layouts.{IsSome, IsFull, AreFull, IsWide, IsWideType, AreWideFields, HasWideTypes}
-
--- ---- lists
-
-pub each_of : {X : Type 0} (P : X → Type 0) (xs : List X) → All P xs → AllOf P xs
-each_of P [] every = tt
-each_of P (x ∷ xs) every = (All-head P x xs every, each_of P xs (All-tail P x xs every))
-
-pub zipped : {X : Type 0} (P Q R : X → Type 0) → ((x : X) → P x → Q x → R x) → (xs : List X) → AllOf P xs → AllOf Q xs → AllOf R xs
-zipped P Q R f [] ps qs = tt
-zipped P Q R f (x ∷ xs) ps qs = (f x ps.0 qs.0, zipped P Q R f xs ps.1 qs.1)
-
-pub looked : {X Y : Type 0} (P : Y → Type 0) (f : X → Y) (xs : List X) (i : ℕ) (d : Y) → AllOf (λ x. P (f x)) xs → P d → P (slice_index_or (map f xs) i d)
-looked P f [] i d every none = none
-looked P f (x ∷ xs) zero d every none = every.0
-looked P f (x ∷ xs) (suc i) d every none = looked P f xs i d every.1 none
+use Rattle.arch_checks.specs.Kept.{KeepsNumbers}
+use Rattle.arch_checks.specs.Wide.{IsSome, IsFull, AreFull, IsWide, IsWideType, AreWideFields, HasWideTypes, HasShallowTypes}
 
 -- ---- words
 
@@ -214,3 +198,6 @@ module _ (arch : Arch) (safe : IsSafe arch) (keeps : KeepsNumbers arch) where
     names = each_element (λ h. All (λ b. AreWideFields arch b.binders) h.callbacks) arch.handlers (handlers_wide arch.handlers good_handlers);
     shallow = low_message;
   }
+
+  pub shallow_types : HasShallowTypes arch
+  shallow_types = each_element (λ s. depth s ≤ 32) (shapes arch) (map_all (λ n. n ≤ 32) depth (shapes arch) (below_greatest (map depth (shapes arch)) 32 (safe.within what.Depth _ refl)))
