@@ -44,9 +44,9 @@ module _ (arch : Arch) (es ds : List Entry) (same : (k : ℕ) → entry_of es k 
   emitter_same : (from i b s w : ℕ) (ls : List Listener) → emitter_code es from i b s w ls ≡ emitter_code ds from i b s w ls
   emitter_same from i b s w ls =
       ap (λ (each : Piece).
-        ins (Push (pos 0)) ▸ ins (St i)
-        ▸ ins (Ld i) ▸ ins (Bcnt b) ▸ ins (Bin Less U64) ▸ ins (Jz (end (from + 2 + 4) each + 5))
-        ▸ each ▸ ins (Ld i) ▸ ins (Push (pos 1)) ▸ ins (Bin Add U64) ▸ ins (St i) ▸ ins (Jmp (from + 2)))
+      ins (Push (pos 0)) ▸ ins (St i)
+      ▸ ins (Ld i) ▸ ins (Bcnt b) ▸ ins (Bin Less U64) ▸ ins (Jz (end (from + 2 + 4) each + 5))
+      ▸ each ▸ ins (Ld i) ▸ ins (Push (pos 1)) ▸ ins (Bin Add U64) ▸ ins (St i) ▸ ins (Jmp (from + 2)))
       (ap joined (map_same (item_code es i b s w) (item_code ds i b s w) (item_same i b s w) ls))
 
   delivery_same : (f : Frame) (from k : ℕ) (ems : List Emitter) → delivery_code arch es f from k ems ≡ delivery_code arch ds f from k ems
@@ -213,9 +213,9 @@ module _ (arch : Arch) (s : ℕ) (hs : List ℕ) (fs : List Frame) (each : lengt
       let from : end 0 (head_of arch entries s) ≡ end 0 (head_of arch known s) = ap (end 0) head ∙ sym (head_end arch known entries alike s (taken_at known ls) width) in
       let own : OwnFrames entries hs fs = own_alike known entries hs fs alike (own_known hs fs each rises) in
       let there : placed_behind arch entries s hs ≡ entries =
-          placed_is arch entries hs fs (end 0 (head_of arch entries s)) own
-          ∙ sym (entries_alike arch known entries alike hs fs (end 0 (head_of arch entries s)))
-          ∙ ap (λ a. entries_from arch known a hs fs) from in
+      placed_is arch entries hs fs (end 0 (head_of arch entries s)) own
+      ∙ sym (entries_alike arch known entries alike hs fs (end 0 (head_of arch entries s)))
+      ∙ ap (λ a. entries_from arch known a hs fs) from in
       λ t. head t ▸ handlers_code arch entries (there t)
 
 -- ---- the code of a task
@@ -247,11 +247,11 @@ pub code_is : (arch : Arch) (s : ℕ) (source : Source) → IsStrictlyIncreasing
     → code ≡ (task_of arch s source).code
 code_is arch s source rises hs is =
     let P : List ℕ → Type 0 = λ ks. (zeros places : List ℕ) (bare full : Frames) (code : List Instr) → length zeros ≡ length ks → ((k : ℕ) → k < length zeros → get_or zeros k 0 ≡ 0)
-        → Agrees (entries_at ks (frames_from arch 0 0 ks) zeros) bare
-        → places ≡ map (λ e. e.place) (placed_behind arch (entries_in bare) s ks)
-        → Agrees (entries_at ks (frames_from arch 0 0 ks) places) full
-        → code ≡ listed (code_behind arch (entries_in full) s ks)
-        → code ≡ (task_of arch s source).code in
+    → Agrees (entries_at ks (frames_from arch 0 0 ks) zeros) bare
+    → places ≡ map (λ e. e.place) (placed_behind arch (entries_in bare) s ks)
+    → Agrees (entries_at ks (frames_from arch 0 0 ks) places) full
+    → code ≡ listed (code_behind arch (entries_in full) s ks)
+    → code ≡ (task_of arch s source).code in
     subst P (sym is) (same_code arch s source rises)
 
 -- ---- the tasks

@@ -91,7 +91,11 @@ fn add_buffers(arch: &Arch, h: u32, buffers: &mut Items<Buffer>) -> Result<(), N
 }
 
 /// The buffers of these handlers, one behind the other.
-pub(crate) fn all_buffers(alloc: Global, arch: &Arch, handlers: &[u32]) -> Result<Items<Buffer>, NoMemory>
+pub(crate) fn all_buffers(
+    alloc: Global,
+    arch: &Arch,
+    handlers: &[u32],
+) -> Result<Items<Buffer>, NoMemory>
     requires { All (λ h. h < length arch.now.handlers) handlers.now }
     ensures { IfOk result (λ buffers. buffers ≡ all_buffers arch.now handlers.now) }
 {

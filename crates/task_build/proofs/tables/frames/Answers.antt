@@ -16,10 +16,10 @@ loop-h-preserved c =
     let h = get_or hs i 0 in
     let v = c.handler.result.now in
     let count : c.len.result ≡ length (handler arch h).emitters =
-        c.len.ensures
-        ∙ sym (length-map v.emitters emitter_of)
-        ∙ sym (ap (λ (z : Handler). length z.emitters) (get_or_from_slice_get c.arch.result.now.handlers h (handler_of v) no_handler c.handler.ensures.value))
-        ∙ ap (λ (a : Arch). length (handler a h).emitters) c.arch.ensures.value in
+    c.len.ensures
+    ∙ sym (length-map v.emitters emitter_of)
+    ∙ sym (ap (λ (z : Handler). length z.emitters) (get_or_from_slice_get c.arch.result.now.handlers h (handler_of v) no_handler c.handler.ensures.value))
+    ∙ ap (λ (a : Arch). length (handler a h).emitters) c.arch.ensures.value in
     frames_next arch hs i h c.loop-h.base c.loop-h.buffer c.in_ok-frame.frame.end c.in_ok-buffer.buffer c.in_ok-frame.frame c.loop-h.frames c.push.new.self (frames_from arch 0 0 hs)
     c.loop-h-test.true refl c.loop-h.invariant c.in_ok-frame.ensures c.in_ok-push.ensures.ok refl (c.in_ok-buffer.ensures ∙ ap (λ n. c.loop-h.buffer + n) count)
 
