@@ -101,9 +101,9 @@ module _ (es : List Entry) (i b s w : ℕ) where
       let all : three ≡ old ++ ((head ++ each) ++ tail) = added_more old two three (head ++ each) tail (added_more old one two head each e1 e2) e3 in
       let there : out ≡ end (from + 2 + 4) (joined (map (item_code es i b s w) ls)) + 5 = exit_is from out ls at_out in
       all ∙ ap (λ xs. old ++ xs) (
-        append_assoc head each tail
-        ∙ (λ t. is_head t ++ (each ++ is_tail t))
-        ∙ (λ t. (Push (pos 0) ∷ St i ∷ Ld i ∷ Bcnt b ∷ Bin Less U64 ∷ Jz (there t) ∷ []) ++ (each ++ (Ld i ∷ Push (pos 1) ∷ Bin Add U64 ∷ St i ∷ Jmp (at_turn t) ∷ [])))
+      append_assoc head each tail
+      ∙ (λ t. is_head t ++ (each ++ is_tail t))
+      ∙ (λ t. (Push (pos 0) ∷ St i ∷ Ld i ∷ Bcnt b ∷ Bin Less U64 ∷ Jz (there t) ∷ []) ++ (each ++ (Ld i ∷ Push (pos 1) ∷ Bin Add U64 ∷ St i ∷ Jmp (at_turn t) ∷ [])))
       )
 
 -- ---- the emitters of a handler
@@ -134,10 +134,10 @@ module _ (arch : Arch) (es : List Entry) (f : Frame) where
       let count : 0 + length (take k ems) ≡ k = few ems k within in
       added_more old one new (listed done) (listed (emitter_piece (length one) k (get_or ems k d))) before grown
       ∙ ap (λ xs. old ++ xs) (
-        ap (λ p. listed done ++ listed (emitter_piece p k (get_or ems k d))) here
-        ∙ ap (λ j. listed done ++ listed (emitter_piece (end (length old) done) j (get_or ems k d))) (sym count)
-        ∙ sym (delivery-push (length old) 0 (take k ems) (get_or ems k d))
-        ∙ ap (λ ys. listed (delivery_code arch es f (length old) 0 ys)) (sym (take_more ems k d within))
+      ap (λ p. listed done ++ listed (emitter_piece p k (get_or ems k d))) here
+      ∙ ap (λ j. listed done ++ listed (emitter_piece (end (length old) done) j (get_or ems k d))) (sym count)
+      ∙ sym (delivery-push (length old) 0 (take k ems) (get_or ems k d))
+      ∙ ap (λ ys. listed (delivery_code arch es f (length old) 0 ys)) (sym (take_more ems k d within))
       )
     where
       few : (xs : List Emitter) (k : ℕ) → k < length xs → 0 + length (take k xs) ≡ k

@@ -31,19 +31,19 @@ heard_at arch ls l (on.Source s) old new kept hears_is same = record {
 heard_at arch ls l (on.Channel a) old new kept hears_is grown = record {
   each = ap length grown ∙ length-set old a (get_or old a [] ++ l ∷ []) ∙ kept.each;
   has = λ c below.
-    ap (λ hs. get_or hs c []) grown ∙ elim (cases_eq a c) [
-      | inl same ↦
-          let inside : a < length old = omega (arith, kept.each, below, same) in
-          ap (λ d. get_or (set old a (get_or old a [] ++ l ∷ [])) d []) (sym same)
-          ∙ get_or-set_same old a (get_or old a [] ++ l ∷ []) [] inside
-          ∙ ap (λ d. get_or old d [] ++ l ∷ []) same
-          ∙ ap (λ xs. xs ++ l ∷ []) (kept.has c below)
-          ∙ sym (passes (hears arch (on.Channel c)) ls l (hears_is (on.Channel c) ∙ eq-eqb a c same))
-      | inr differ ↦
-          get_or-set_other old a c (get_or old a [] ++ l ∷ []) [] (λ q. differ (sym q))
-          ∙ kept.has c below
-          ∙ sym (fails (hears arch (on.Channel c)) ls l (hears_is (on.Channel c) ∙ ne_eqb a c differ))
-    ];
+      ap (λ hs. get_or hs c []) grown ∙ elim (cases_eq a c) [
+        | inl same ↦
+            let inside : a < length old = omega (arith, kept.each, below, same) in
+            ap (λ d. get_or (set old a (get_or old a [] ++ l ∷ [])) d []) (sym same)
+            ∙ get_or-set_same old a (get_or old a [] ++ l ∷ []) [] inside
+            ∙ ap (λ d. get_or old d [] ++ l ∷ []) same
+            ∙ ap (λ xs. xs ++ l ∷ []) (kept.has c below)
+            ∙ sym (passes (hears arch (on.Channel c)) ls l (hears_is (on.Channel c) ∙ eq-eqb a c same))
+        | inr differ ↦
+            get_or-set_other old a c (get_or old a [] ++ l ∷ []) [] (λ q. differ (sym q))
+            ∙ kept.has c below
+            ∙ sym (fails (hears arch (on.Channel c)) ls l (hears_is (on.Channel c) ∙ ne_eqb a c differ))
+      ];
 }
 
 -- one listener more

@@ -110,7 +110,12 @@ fn add_words(code: &mut Code, out: Outgoing, to: u32) -> Result<(), NoMemory>
 }
 
 /// Adds the instructions that give one message to a subscriber.
-fn add_item(code: &mut Code, frames: &Frames, out: Outgoing, listener: Listener) -> Result<(), NoMemory>
+fn add_item(
+    code: &mut Code,
+    frames: &Frames,
+    out: Outgoing,
+    listener: Listener,
+) -> Result<(), NoMemory>
     ensures ok { OnOk result (code.new ≡ code.old ++ listed
         (item_code (entries_in frames.now) out.counter out.buffer out.scratch out.width listener)) }
     ensures keeps { Keeps code.old code.new }

@@ -23,9 +23,9 @@ pub mapped_more : {X Y : Type 0} (f : X → Y) (xs : List X) (k : ℕ) (x : X) (
 mapped_more f xs k x base old new y within read before grown is =
     grown ∙ (λ t. before t ++ is t ∷ []) ∙ append_assoc base (map f (take k xs)) (f x ∷ [])
     ∙ ap (λ ys. base ++ ys) (
-      ap (λ z. map f (take k xs) ++ f z ∷ []) (sym read)
-      ∙ sym (map-append f (take k xs) (get_or xs k x ∷ []))
-      ∙ ap (map f) (sym (take_more xs k x within))
+    ap (λ z. map f (take k xs) ++ f z ∷ []) (sym read)
+    ∙ sym (map-append f (take k xs) (get_or xs k x ∷ []))
+    ∙ ap (map f) (sym (take_more xs k x within))
     )
 
 pub got : {X : Type 0} (xs : List X) (k : ℕ) (x : X) → slice_get xs k ≡ Some x → get_or xs k x ≡ x
@@ -100,16 +100,16 @@ placing_next arch es hs k h place code new whole places more all within read her
     let there : length new ≡ end (length code) q = ap length added ∙ length-append code (listed q) ∙ sym (end_is q (length code)) in
     record {
       written =
-        (λ t. added t ++ listed (handlers_code arch es (placed_from arch es (there t) rest)))
-        ∙ append_assoc code (listed q) (listed (handlers_code arch es (placed_from arch es (end (length code) q) rest)))
-        ∙ ap (λ ks. code ++ listed (handlers_code arch es (placed_from arch es (length code) ks))) (sym cut)
-        ∙ so.written;
+          (λ t. added t ++ listed (handlers_code arch es (placed_from arch es (there t) rest)))
+          ∙ append_assoc code (listed q) (listed (handlers_code arch es (placed_from arch es (end (length code) q) rest)))
+          ∙ ap (λ ks. code ++ listed (handlers_code arch es (placed_from arch es (length code) ks))) (sym cut)
+          ∙ so.written;
       placed =
-        (λ t. listed_more t ++ map (λ e. e.place) (placed_from arch es (there t) rest))
-        ∙ append_assoc places (place ∷ []) (map (λ e. e.place) (placed_from arch es (end (length code) q) rest))
-        ∙ ap (λ a. places ++ (a ∷ map (λ e. e.place) (placed_from arch es (end (length code) q) rest))) here
-        ∙ ap (λ ks. places ++ map (λ e. e.place) (placed_from arch es (length code) ks)) (sym cut)
-        ∙ so.placed;
+          (λ t. listed_more t ++ map (λ e. e.place) (placed_from arch es (there t) rest))
+          ∙ append_assoc places (place ∷ []) (map (λ e. e.place) (placed_from arch es (end (length code) q) rest))
+          ∙ ap (λ a. places ++ (a ∷ map (λ e. e.place) (placed_from arch es (end (length code) q) rest))) here
+          ∙ ap (λ ks. places ++ map (λ e. e.place) (placed_from arch es (length code) ks)) (sym cut)
+          ∙ so.placed;
     }
 
 pub all_written : (arch : Arch) (es : List Entry) (hs : List ℕ) (k : ℕ) (code whole : List Instr) (places all : List ℕ) → length hs ≤ k → Placing arch es hs k code places whole all → code ≡ whole

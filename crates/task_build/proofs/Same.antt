@@ -1,8 +1,11 @@
 -- The code of a task depends on its entries only by what is found of each handler.
-use Rattle.std.proofs.Common.{◌≡◌, ◌≢◌, ◌∙◌, ℕ, zero, suc, ◌+◌, ◌<◌, List, [], ◌∷◌, ◌++◌, length, map, take, pos, get_or, slice_index_or, refl, ap, sym, subst, arith}
+use Rattle.std.proofs.Common.{◌≡◌, ◌≢◌, ◌∙◌, ℕ, zero, suc, ◌+◌, ◌<◌, List, [], ◌∷◌, ◌++◌, length, map, take, pos, get_or, slice_index_or, None, refl, ap, sym, subst, arith}
 use Rattle.std.specs.List.Sorted.{IsStrictlyIncreasing}
 use Rattle.tower_types.specs.declared.scalar.Scalar.TheVariants.{U64}
 use Rattle.tower_types.specs.declared.scalar.BinOp.TheVariants.{Add, Less}
+use Rattle.tower_types.specs.declared.scalar.Scalar.TheVariants.{I64}
+use Rattle.tower_types.specs.Ty.{scalar}
+use Rattle.tower_syntax.specs.declared.arch.SourceKind.TheVariants.{Init}
 use Rattle.tower_syntax.specs.declared.arch.On.TheVariants as on
 use Rattle.tower_syntax.specs.declared.arch.Listener.{Listener}
 use Rattle.tower_syntax.specs.declared.arch.Listener.TheVariants as to
@@ -41,9 +44,9 @@ module _ (arch : Arch) (es ds : List Entry) (same : (k : ℕ) → entry_of es k 
   emitter_same : (from i b s w : ℕ) (ls : List Listener) → emitter_code es from i b s w ls ≡ emitter_code ds from i b s w ls
   emitter_same from i b s w ls =
       ap (λ (each : Piece).
-        ins (Push (pos 0)) ▸ ins (St i)
-        ▸ ins (Ld i) ▸ ins (Bcnt b) ▸ ins (Bin Less U64) ▸ ins (Jz (end (from + 2 + 4) each + 5))
-        ▸ each ▸ ins (Ld i) ▸ ins (Push (pos 1)) ▸ ins (Bin Add U64) ▸ ins (St i) ▸ ins (Jmp (from + 2)))
+      ins (Push (pos 0)) ▸ ins (St i)
+      ▸ ins (Ld i) ▸ ins (Bcnt b) ▸ ins (Bin Less U64) ▸ ins (Jz (end (from + 2 + 4) each + 5))
+      ▸ each ▸ ins (Ld i) ▸ ins (Push (pos 1)) ▸ ins (Bin Add U64) ▸ ins (St i) ▸ ins (Jmp (from + 2)))
       (ap joined (map_same (item_code es i b s w) (item_code ds i b s w) (item_same i b s w) ls))
 
   delivery_same : (f : Frame) (from k : ℕ) (ems : List Emitter) → delivery_code arch es f from k ems ≡ delivery_code arch ds f from k ems
@@ -210,9 +213,9 @@ module _ (arch : Arch) (s : ℕ) (hs : List ℕ) (fs : List Frame) (each : lengt
       let from : end 0 (head_of arch entries s) ≡ end 0 (head_of arch known s) = ap (end 0) head ∙ sym (head_end arch known entries alike s (taken_at known ls) width) in
       let own : OwnFrames entries hs fs = own_alike known entries hs fs alike (own_known hs fs each rises) in
       let there : placed_behind arch entries s hs ≡ entries =
-          placed_is arch entries hs fs (end 0 (head_of arch entries s)) own
-          ∙ sym (entries_alike arch known entries alike hs fs (end 0 (head_of arch entries s)))
-          ∙ ap (λ a. entries_from arch known a hs fs) from in
+      placed_is arch entries hs fs (end 0 (head_of arch entries s)) own
+      ∙ sym (entries_alike arch known entries alike hs fs (end 0 (head_of arch entries s)))
+      ∙ ap (λ a. entries_from arch known a hs fs) from in
       λ t. head t ▸ handlers_code arch entries (there t)
 
 -- ---- the code of a task
@@ -244,11 +247,11 @@ pub code_is : (arch : Arch) (s : ℕ) (source : Source) → IsStrictlyIncreasing
     → code ≡ (task_of arch s source).code
 code_is arch s source rises hs is =
     let P : List ℕ → Type 0 = λ ks. (zeros places : List ℕ) (bare full : Frames) (code : List Instr) → length zeros ≡ length ks → ((k : ℕ) → k < length zeros → get_or zeros k 0 ≡ 0)
-        → Agrees (entries_at ks (frames_from arch 0 0 ks) zeros) bare
-        → places ≡ map (λ e. e.place) (placed_behind arch (entries_in bare) s ks)
-        → Agrees (entries_at ks (frames_from arch 0 0 ks) places) full
-        → code ≡ listed (code_behind arch (entries_in full) s ks)
-        → code ≡ (task_of arch s source).code in
+    → Agrees (entries_at ks (frames_from arch 0 0 ks) zeros) bare
+    → places ≡ map (λ e. e.place) (placed_behind arch (entries_in bare) s ks)
+    → Agrees (entries_at ks (frames_from arch 0 0 ks) places) full
+    → code ≡ listed (code_behind arch (entries_in full) s ks)
+    → code ≡ (task_of arch s source).code in
     subst P (sym is) (same_code arch s source rises)
 
 -- ---- the tasks
@@ -267,6 +270,19 @@ tasks_more arch k d old new task within before grown is =
     ∙ ap (λ j. tasks_from arch 0 (take k arch.sources) ++ task_of arch j x ∷ []) count
     ∙ sym (tasks-push arch 0 (take k arch.sources) x)
     ∙ ap (tasks_from arch 0) (sym (take_more arch.sources k d within))
+
+abbrev pub no_source : Source
+no_source = record { name = []; kind = Init; priority = 0; message = scalar I64; depth = None }
+
+pub plans_count : (arch : Arch) (plans : List TaskPlan) → plans ≡ plans_of arch → length plans ≡ length arch.sources
+plans_count arch plans is = ap length is ∙ length-map (numbers_before (length arch.sources) []) (plan_of arch) ∙ count (length arch.sources)
+  where
+    count : (n : ℕ) → length (numbers_before n []) ≡ n
+    count n = omega (arith, length-numbers n [])
+
+pub placed_count : (arch : Arch) (es : List Entry) (hs : List ℕ) (from : ℕ) → length (map (λ e. e.place) (placed_from arch es from hs)) ≡ length hs
+placed_count arch es [] from = refl
+placed_count arch es (h ∷ hs) from = ap suc (placed_count arch es hs (end from (handler_code arch es h (entry_of es h).frame from)))
 
 -- the plan of a source among all plans
 pub plan_at : (arch : Arch) (plans : List TaskPlan) (k : ℕ) (d p : TaskPlan) → plans ≡ plans_of arch → k < length plans → p ≡ get_or plans k d → (k < length arch.sources) × (p ≡ plan_of arch k)

@@ -83,32 +83,36 @@ pub record Tabled (n : ℕ) (hs : List ℕ) (fs : List Frame) (ps : List ℕ) (m
   pub agrees : Agrees (entries_at (drop (length made) hs) rest (drop (length made) ps)) t
   pub has : (j : ℕ) → length made ≤ j → j < length hs → HasEntry t (get_or hs j 0)
 
-pub table_begun : (n : ℕ) (hs : List ℕ) (fs : List Frame) (ps : List ℕ) (made : List Frame) (t : Frames) → made ≡ fs → length fs ≡ length hs → t.frames ≡ replicate n None → length t.frames ≡ n → length t.entries ≡ n → Tabled n hs fs ps made t
-table_begun n hs fs ps made t same each blank frames entries = record {
+pub replicate_length : {X : Type 0} (n : ℕ) (x : X) → length (replicate n x) ≡ n
+replicate_length zero x = refl
+replicate_length (suc n) x = ap suc (replicate_length n x)
+
+pub table_begun : (m n : ℕ) (hs : List ℕ) (fs : List Frame) (ps : List ℕ) (made : List Frame) (t : Frames) → m ≡ n → made ≡ fs → length fs ≡ length hs → t.frames ≡ replicate m None → t.entries ≡ replicate m 0 → Tabled n hs fs ps made t
+table_begun m n hs fs ps made t many same each frames entries = record {
   rest = [];
   whole = append-none made ∙ same;
-  frames = frames;
-  entries = entries;
+  frames = ap length frames ∙ replicate_length m None ∙ many;
+  entries = ap length entries ∙ replicate_length m 0 ∙ many;
   agrees =
-    let past : length hs ≤ length made = omega (arith, each, ap length same) in
-    subst (λ ks. Agrees (entries_at ks [] (drop (length made) ps)) t) (sym (drop_all (length made) hs past)) (nothing_found t n blank);
+      let past : length hs ≤ length made = omega (arith, each, ap length same) in
+      subst (λ ks. Agrees (entries_at ks [] (drop (length made) ps)) t) (sym (drop_all (length made) hs past)) (nothing_found t m frames);
   has = λ j late early. absurd (omega (arith, late, early, each, ap length same));
 }
 
 put_entry : (t u : Frames) (h k p : ℕ) (f : Frame) → u.frames ≡ slice_set t.frames h (Some f) → u.entries ≡ slice_set t.entries h p → h < length t.frames → h < length t.entries → HasEntry t k → HasEntry u k
 put_entry t u h k p f framed placed one two has = elim (cases_eq h k) [
   | inl same ↦ record {
-      frame = f;
-      place = p;
-      framed = ap (slice_get u.frames) (sym same) ∙ ap (λ fs. slice_get fs h) framed ∙ set_same t.frames h (Some f) one;
-      placed = ap (slice_get u.entries) (sym same) ∙ ap (λ ns. slice_get ns h) placed ∙ set_same t.entries h p two;
-    }
+    frame = f;
+    place = p;
+    framed = ap (slice_get u.frames) (sym same) ∙ ap (λ fs. slice_get fs h) framed ∙ set_same t.frames h (Some f) one;
+    placed = ap (slice_get u.entries) (sym same) ∙ ap (λ ns. slice_get ns h) placed ∙ set_same t.entries h p two;
+  }
   | inr differ ↦ record {
-      frame = has.frame;
-      place = has.place;
-      framed = ap (λ fs. slice_get fs k) framed ∙ set_other t.frames h k (Some f) differ ∙ has.framed;
-      placed = ap (λ ns. slice_get ns k) placed ∙ set_other t.entries h k p differ ∙ has.placed;
-    }
+    frame = has.frame;
+    place = has.place;
+    framed = ap (λ fs. slice_get fs k) framed ∙ set_other t.frames h k (Some f) differ ∙ has.framed;
+    placed = ap (λ ns. slice_get ns k) placed ∙ set_other t.entries h k p differ ∙ has.placed;
+  }
 ]
 
 put_agrees : (t u : Frames) (h p : ℕ) (f : Frame) (es : List Entry) → u.frames ≡ slice_set t.frames h (Some f) → u.entries ≡ slice_set t.entries h p → h < length t.frames → h < length t.entries → Agrees es t → Agrees (record { number = h; frame = f; place = p } ∷ es) u
@@ -124,6 +128,13 @@ put_agrees t u h p f es framed placed one two agrees k =
           let at : slice_get u.entries k ≡ slice_get t.entries k = ap (λ ns. slice_get ns k) placed ∙ set_other t.entries h k p differ in
           entry_there e es k differ ∙ agrees k ∙ entry_looked t k ∙ sym (entry_looked u k ∙ (λ i. found k (seen i) (at i)))
     ]
+
+-- the frame that is taken is that of one of the handlers
+pub table_within : (n : ℕ) (hs : List ℕ) (fs : List Frame) (ps : List ℕ) (made less : List Frame) (f : Frame) (t : Frames) → length fs ≡ length hs → Tabled n hs fs ps made t → made ≡ less ++ f ∷ [] → length less < length hs
+table_within n hs fs ps made less f t each so cut =
+    let longer : length made ≡ length less + 1 = ap length cut ∙ length-append less (f ∷ []) in
+    let all : length made + length so.rest ≡ length fs = sym (length-append made so.rest) ∙ ap length so.whole in
+    omega (arith, longer, all, each)
 
 -- one handler more
 pub table_more : (n : ℕ) (hs : List ℕ) (fs : List Frame) (ps : List ℕ) (made less : List Frame) (f : Frame) (h p : ℕ) (t u : Frames) → length fs ≡ length hs → length ps ≡ length hs → Tabled n hs fs ps made t
@@ -144,10 +155,10 @@ table_more n hs fs ps made less f h p t u each places so cut read at below frame
       frames = ap length framed ∙ length-set t.frames h (Some f) ∙ so.frames;
       entries = ap length placed ∙ length-set t.entries h p ∙ so.entries;
       agrees =
-        let here : Agrees (entries_at (h ∷ drop (length made) hs) (f ∷ so.rest) (p ∷ drop (length made) ps)) u =
-            put_agrees t u h p f (entries_at (drop (length made) hs) so.rest (drop (length made) ps)) framed placed one two so.agrees in
-        subst (λ ks. Agrees (entries_at ks (f ∷ so.rest) (drop (length less) ps)) u) (sym hs_cut)
-        (subst (λ qs. Agrees (entries_at (h ∷ drop (length made) hs) (f ∷ so.rest) qs) u) (sym ps_cut) here);
+          let here : Agrees (entries_at (h ∷ drop (length made) hs) (f ∷ so.rest) (p ∷ drop (length made) ps)) u =
+          put_agrees t u h p f (entries_at (drop (length made) hs) so.rest (drop (length made) ps)) framed placed one two so.agrees in
+          subst (λ ks. Agrees (entries_at ks (f ∷ so.rest) (drop (length less) ps)) u) (sym hs_cut)
+          (subst (λ qs. Agrees (entries_at (h ∷ drop (length made) hs) (f ∷ so.rest) qs) u) (sym ps_cut) here);
       has = λ j late early. elim (cases_lt (length less) j) [
         | inl more ↦ put_entry t u h (get_or hs j 0) p f framed placed one two (so.has j (omega (arith, more, longer)) early)
         | inr last ↦

@@ -1,11 +1,11 @@
 //! The program of a system.
 #![tactic(auto)]
 
-mod build;
+mod building;
 mod heads;
 pub mod laws;
 mod sizes;
 mod tables;
 mod tasks;
 
-pub use build::build;
+pub use building::build;

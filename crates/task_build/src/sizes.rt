@@ -30,12 +30,20 @@ fn fields_words(arch: &Arch, fields: &[(Name, Ty)]) -> u64
     total
 }
 
+/// The words of the states of a monitor, or 2^64 - 1 where there are more.
+fn state_words(arch: &Arch, m: &Monitor) -> u64
+    requires { AreNumberedFields (length arch.now.records) (monitor_of m.now).states }
+    ensures { result ≡ saturated (monitor_words arch.now (monitor_of m.now)) }
+{
+    fields_words(arch, m.states.as_slice())
+}
+
 /// The words of the states of a monitor.
 fn words_of_monitor(arch: &Arch, m: &Monitor) -> Result<u32, NoMemory>
     requires { AreNumberedFields (length arch.now.records) (monitor_of m.now).states }
     ensures { IfOk result (λ n. n ≡ monitor_words arch.now (monitor_of m.now)) }
 {
-    match u32::try_from(fields_words(arch, m.states.as_slice())) {
+    match u32::try_from(state_words(arch, m)) {
         Ok(count) => Ok(count),
         Err(_) => Err(NoMemory),
     }
@@ -83,7 +91,11 @@ fn add_buffers(arch: &Arch, h: u32, buffers: &mut Items<Buffer>) -> Result<(), N
 }
 
 /// The buffers of these handlers, one behind the other.
-pub(crate) fn all_buffers(alloc: Global, arch: &Arch, handlers: &[u32]) -> Result<Items<Buffer>, NoMemory>
+pub(crate) fn all_buffers(
+    alloc: Global,
+    arch: &Arch,
+    handlers: &[u32],
+) -> Result<Items<Buffer>, NoMemory>
     requires { All (λ h. h < length arch.now.handlers) handlers.now }
     ensures { IfOk result (λ buffers. buffers ≡ all_buffers arch.now handlers.now) }
 {

@@ -23,7 +23,11 @@ fn behind(number: u32, count: usize) -> Result<u32, NoMemory>
 }
 
 /// The frames of these handlers, one behind the other.
-pub(crate) fn frames(alloc: Global, arch: &Checked, handlers: &[u32]) -> Result<Items<Frame>, NoMemory>
+pub(crate) fn frames(
+    alloc: Global,
+    arch: &Checked,
+    handlers: &[u32],
+) -> Result<Items<Frame>, NoMemory>
     requires { All (λ h. h < length arch.now.handlers) handlers.now }
     ensures { IfOk result (λ frames. frames ≡ frames_from arch.now 0 0 handlers.now) }
 {

@@ -41,7 +41,7 @@ pub plans_more : (arch : Arch) (s : ℕ) (old new : List TaskPlan) (p : TaskPlan
 plans_more arch s old new p before grown here =
     let f : ℕ → TaskPlan = plan_of arch in
     let all : map f (numbers_before (s + 1) []) ≡ map f (numbers_before s []) ++ f s ∷ [] =
-        rw add-one (ap (map f) (numbers_before-suc s) ∙ map-append f (numbers_before s []) (s ∷ [])) in
+    rw add-one (ap (map f) (numbers_before-suc s) ∙ map-append f (numbers_before s []) (s ∷ [])) in
     grown ∙ (λ i. before i ++ here i ∷ []) ∙ sym all
 
 -- ---- the monitors
@@ -55,18 +55,18 @@ pub worked_more : (arch : Arch) (hs : List ℕ) (i d : ℕ) (old new : List Bool
 worked_more arch hs i d old new x within marks found below e = record {
   each = ap length e ∙ length-set old x.monitor true ∙ marks.each;
   has = λ m l.
-    let p : ℕ → Bool = λ h. (handler arch h).monitor == m in
-    let at : (handler arch (get_or hs i d)).monitor ≡ x.monitor = ap (λ z. z.monitor) (get_or_from_slice_get arch.handlers (get_or hs i d) x no_handler found) in
-    let more : list_any p (take (i + 1) hs) ≡ (list_any p (take i hs) || p (get_or hs i d)) = list_any_more p hs i d within in
-    ap (λ ms. get_or ms m false) e ∙ elim (cases_eq x.monitor m) [
-      | inl same ↦
-          let inside : x.monitor < length old = omega (arith, below, marks.each) in
-          ap (λ n. get_or (set old x.monitor true) n false) (sym same) ∙ get_or-set_same old x.monitor true false inside
-          ∙ sym (more ∙ or_right (list_any p (take i hs)) (p (get_or hs i d)) (eq-eqb (handler arch (get_or hs i d)).monitor m (at ∙ same)))
-      | inr differ ↦
-          get_or-set_other old x.monitor m true false (λ q. differ (sym q)) ∙ marks.has m l
-          ∙ sym (more ∙ or_left_false (list_any p (take i hs)) (p (get_or hs i d)) (ne_eqb (handler arch (get_or hs i d)).monitor m (λ q. differ (sym at ∙ q))))
-    ];
+      let p : ℕ → Bool = λ h. (handler arch h).monitor == m in
+      let at : (handler arch (get_or hs i d)).monitor ≡ x.monitor = ap (λ z. z.monitor) (get_or_from_slice_get arch.handlers (get_or hs i d) x no_handler found) in
+      let more : list_any p (take (i + 1) hs) ≡ (list_any p (take i hs) || p (get_or hs i d)) = list_any_more p hs i d within in
+      ap (λ ms. get_or ms m false) e ∙ elim (cases_eq x.monitor m) [
+        | inl same ↦
+            let inside : x.monitor < length old = omega (arith, below, marks.each) in
+            ap (λ n. get_or (set old x.monitor true) n false) (sym same) ∙ get_or-set_same old x.monitor true false inside
+            ∙ sym (more ∙ or_right (list_any p (take i hs)) (p (get_or hs i d)) (eq-eqb (handler arch (get_or hs i d)).monitor m (at ∙ same)))
+        | inr differ ↦
+            get_or-set_other old x.monitor m true false (λ q. differ (sym q)) ∙ marks.has m l
+            ∙ sym (more ∙ or_left_false (list_any p (take i hs)) (p (get_or hs i d)) (ne_eqb (handler arch (get_or hs i d)).monitor m (λ q. differ (sym at ∙ q))))
+      ];
 }
 
 pub monitors_are : (arch : Arch) (hs : List ℕ) (marks slice : List Bool) (found : List ℕ) → AreWorkedOn arch hs marks → slice ≡ marks → found ≡ filter (λ k. get_or slice k false) (numbers_before (length slice) []) → found ≡ monitors_of arch hs
@@ -77,8 +77,8 @@ monitors_are arch hs marks slice found worked same e =
     e ∙ ap (λ ms. filter (λ k. get_or ms k false) (numbers_before (length ms) [])) same
     ∙ ap (λ n. filter q (numbers_before n [])) worked.each
     ∙ filter-agree p q ks
-      (λ m h t. worked.has m (number_below (length arch.monitors) m h) ∙ t)
-      (λ m h t. sym (worked.has m (number_below (length arch.monitors) m h)) ∙ t)
+    (λ m h t. worked.has m (number_below (length arch.monitors) m h) ∙ t)
+    (λ m h t. sym (worked.has m (number_below (length arch.monitors) m h)) ∙ t)
 
 -- ---- the law
 

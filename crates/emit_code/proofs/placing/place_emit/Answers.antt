@@ -38,10 +38,10 @@ returns-clause-ok c =
     let within : k < length items = omega (arith, emitters_count ems items seen, has) in
     let here : get_or ems k no_emitter ≡ emitter_of r = get_or_default ems k no_emitter (emitter_of r) has ∙ emitter_is ems items k r seen within c.index-as_slice-emitter.is in
     let width : c.in_ok-width.width ≡ emitter_words c.args.arch.now (slice_index_or (handler c.args.arch.now h).emitters k no_emitter) =
-        c.in_ok-width.ensures
-        ∙ ap (λ (x : EmitterValue). message_words arch (on.Channel x.channel)) (sym c.index-as_slice-emitter.is)
-        ∙ ap (emitter_words arch) (sym here)
-        ∙ ap (λ (a : Arch). emitter_words a (slice_index_or (handler a h).emitters k no_emitter)) c.arch-arch.ensures.value in
+    c.in_ok-width.ensures
+    ∙ ap (λ (x : EmitterValue). message_words arch (on.Channel x.channel)) (sym c.index-as_slice-emitter.is)
+    ∙ ap (emitter_words arch) (sym here)
+    ∙ ap (λ (a : Arch). emitter_words a (slice_index_or (handler a h).emitters k no_emitter)) c.arch-arch.ensures.value in
     let scratch : c.number_at-scratch.result ≡ slice_index_or c.args.frame.now.scratch k 0 = c.number_at-scratch.ensures ∙ ap (λ ns. get_or ns k 0) c.as_slice-2.ensures in
     let buffer : c.in_ok-buffer.buffer ≡ c.args.frame.now.first_buffer + k = search rules in
     c.in_ok-emission.ensures.ok ∙ (λ t. c.args.code.now ++ listed (emission (scratch t) (buffer t) (width t)))
