@@ -5,7 +5,7 @@ ghost use Rattle.tower_syntax.specs.View.{source_of, entry_of, events_of};
 ghost use Rattle.event_record.specs.Lines.{lines, words, behind_word};
 ghost use Rattle.event_record.specs.FewWords.{listed};
 ghost use Rattle.event_record.specs.Judged.{with_line, added_or, walk, makes};
-ghost use Rattle.event_record.specs.Record.{SpellsRecord, IsRecordFault, signal_at};
+ghost use Rattle.event_record.specs.Record.{SpellsRecord, IsRecordFault, is_signal, names_signal, signal_at};
 ghost use Rattle.event_record.specs.RecordLine.{tick_form, sig_form, said_of, judged_signal, judge_entry, over_entries, IsTold};
 ghost use Rattle.event_record.specs.SaidSeen.{said_seen};
 
@@ -108,6 +108,22 @@ fn say(line: &[u8]) -> Said<'_>
     Said::NoForm
 }
 
+fn is_signal(kind: SourceKind) -> bool
+    ensures { result ≡ is_signal kind }
+{
+    match kind {
+        SourceKind::Init => false,
+        SourceKind::Period(_) => false,
+        SourceKind::Signal => true,
+    }
+}
+
+fn is_signal_named(source: &Source, name: &[u8]) -> bool
+    ensures { result ≡ names_signal name.now (source_of source.now) }
+{
+    source.name.bytes() == name && is_signal(source.kind)
+}
+
 /// The number of the signal source with this name.
 fn signal_named(sources: &[Source], name: &[u8]) -> Option<u32>
     requires { length sources.now ≤ 2 ^ 32 }
@@ -115,7 +131,7 @@ fn signal_named(sources: &[Source], name: &[u8]) -> Option<u32>
     ensures within { MatchOption result (Unit {0}) (λ x. x < length sources.now) }
 {
     for (x, source) in sources.iter().enumerate() {
-        if source.name.bytes() == name && source.kind == SourceKind::Signal {
+        if is_signal_named(source, name) {
             return Some(x as u32);
         }
     }
