@@ -1,5 +1,6 @@
 -- Values that were made, as definitions see them.
-use Rattle.std.specs.Prelude.{◌≡◌, ℕ, List, ◌∷◌, Option, Some, None, Bor}
+use Rattle.std.specs.Prelude.{◌≡◌, ℕ, List, ◌∷◌, Option, Some, None}
+use Rattle.std.specs.Borrow.{Bor}
 use Rattle.tower_types.specs.declared.value.Value.{Value as ValueMade}
 use Rattle.tower_types.specs.Value.{Value, Values}
 use Rattle.tower_types.specs.View.{value_of}

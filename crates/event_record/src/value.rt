@@ -29,32 +29,32 @@ pub(crate) fn is_value(text: &[u8]) -> bool
     ensures { result ≡ makes_value 0 false (tokens text.now) }
 {
     let mut rest = text;
-    let mut open = 0;
+    let mut depth = 0;
     let mut whole = false;
     loop {
         match first_token(rest) {
-            Ahead::End => return open == 0 && whole,
+            Ahead::End => return depth == 0 && whole,
             Ahead::Stray => return false,
             Ahead::Left(behind) => {
-                if !may_begin(open, whole) {
+                if !may_begin(depth, whole) {
                     return false;
                 }
-                open += 1;
+                depth += 1;
                 rest = behind;
             }
             Ahead::Right(behind) => {
-                if open == 0 {
+                if depth == 0 {
                     return false;
                 }
-                open -= 1;
-                whole = open == 0;
+                depth -= 1;
+                whole = depth == 0;
                 rest = behind;
             }
             Ahead::Atom(word, behind) => {
-                if !may_begin(open, whole) || !is_literal(word) {
+                if !may_begin(depth, whole) || !is_literal(word) {
                     return false;
                 }
-                whole = open == 0;
+                whole = depth == 0;
                 rest = behind;
             }
         }
@@ -141,10 +141,13 @@ fn take_value<'a>(
             Some(inside) => take_array(alloc, inside, records, *len, element.get()),
             None => Ok(None),
         },
-        Ty::Rec(r) => match opened(text) {
-            Some(inside) => take_record(alloc, inside, records, records.fields(*r)),
-            None => Ok(None),
-        },
+        Ty::Rec(r) => {
+            let fields = records.fields(*r);
+            match opened(text) {
+                Some(inside) => take_record(alloc, inside, records, fields),
+                None => Ok(None),
+            }
+        }
     }
 }
 
