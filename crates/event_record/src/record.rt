@@ -1,5 +1,5 @@
 //! Reads event records.
-ghost use Rattle.std.specs.Prelude.{◌≡◌, ◌≤◌, ◌<◌, ◌^◌, [], ◌∷◌, length, map, replicate, IfOk, IfErr, MatchOption, Ok};
+ghost use Rattle.std.specs.Prelude.{◌≡◌, ◌≤◌, ◌<◌, ◌^◌, [], ◌∷◌, length, map, replicate, IfOk, IfErr, OnOk, MatchOption, Ok};
 ghost use Rattle.tower_syntax.specs.Arch.{tick};
 ghost use Rattle.tower_syntax.specs.View.{source_of, entry_of, events_of};
 ghost use Rattle.event_record.specs.Lines.{lines, words, behind_word};
@@ -140,7 +140,9 @@ fn signal_named(sources: &[Source], name: &[u8]) -> Option<u32>
 
 /// Adds so many ticks, unless these are too many.
 fn add_ticks(entries: &mut Items<Entry>, n: u32) -> Result<Option<RecordKind>, NoMemory>
-    ensures { IfOk result (λ kind. added_or kind (map entry_of entries.new) ≡ with_line over_entries (map entry_of entries.old) (makes (replicate n tick))) }
+    requires { length entries.old ≤ ENTRY_LIMIT }
+    ensures few { OnOk result (length entries.new ≤ ENTRY_LIMIT) }
+    ensures added { IfOk result (λ kind. added_or kind (map entry_of entries.new) ≡ with_line over_entries (map entry_of entries.old) (makes (replicate n tick))) }
 {
     if entries.len().saturating_add(n as usize) > ENTRY_LIMIT {
         return Ok(Some(RecordKind::Many));
@@ -153,7 +155,9 @@ fn add_ticks(entries: &mut Items<Entry>, n: u32) -> Result<Option<RecordKind>, N
 
 /// Adds an entry, unless it is one too many.
 fn add_entry(entries: &mut Items<Entry>, entry: Entry) -> Result<Option<RecordKind>, NoMemory>
-    ensures { IfOk result (λ kind. added_or kind (map entry_of entries.new) ≡ with_line over_entries (map entry_of entries.old) (makes (entry_of entry ∷ []))) }
+    requires { length entries.old ≤ ENTRY_LIMIT }
+    ensures few { OnOk result (length entries.new ≤ ENTRY_LIMIT) }
+    ensures added { IfOk result (λ kind. added_or kind (map entry_of entries.new) ≡ with_line over_entries (map entry_of entries.old) (makes (entry_of entry ∷ []))) }
 {
     if entries.len() >= ENTRY_LIMIT {
         return Ok(Some(RecordKind::Many));
@@ -170,7 +174,9 @@ fn add_signal(
     name: &[u8],
     text: &[u8],
 ) -> Result<Option<RecordKind>, NoMemory>
-    ensures { IfOk result (λ kind. added_or kind (map entry_of entries.new) ≡ with_line over_entries (map entry_of entries.old) (judged_signal arch.now (signal_at arch.now.sources name.now) text.now)) }
+    requires { length entries.old ≤ ENTRY_LIMIT }
+    ensures few { OnOk result (length entries.new ≤ ENTRY_LIMIT) }
+    ensures added { IfOk result (λ kind. added_or kind (map entry_of entries.new) ≡ with_line over_entries (map entry_of entries.old) (judged_signal arch.now (signal_at arch.now.sources name.now) text.now)) }
 {
     let Some(x) = signal_named(arch.sources(), name) else {
         return Ok(Some(RecordKind::Name));
@@ -189,7 +195,9 @@ fn add_line(
     entries: &mut Items<Entry>,
     line: &[u8],
 ) -> Result<Option<RecordKind>, NoMemory>
-    ensures { IfOk result (λ kind. added_or kind (map entry_of entries.new) ≡ with_line over_entries (map entry_of entries.old) (judge_entry arch.now line.now)) }
+    requires { length entries.old ≤ ENTRY_LIMIT }
+    ensures few { OnOk result (length entries.new ≤ ENTRY_LIMIT) }
+    ensures added { IfOk result (λ kind. added_or kind (map entry_of entries.new) ≡ with_line over_entries (map entry_of entries.old) (judge_entry arch.now line.now)) }
 {
     match say(line) {
         Said::Nothing => Ok(None),
@@ -202,6 +210,7 @@ fn add_line(
 /// The entries of a text that is not too long.
 fn entries_of(alloc: Global, arch: &Arch, bytes: &[u8]) -> Result<Items<Entry>, RecordFault>
     requires { length bytes.now ≤ BYTE_LIMIT }
+    ensures few { IfOk result (λ entries. length entries ≤ ENTRY_LIMIT) }
     ensures ok { IfOk result (λ entries. walk (judge_entry arch.now) over_entries 1 [] (lines bytes.now) ≡ Ok (map entry_of entries)) }
     ensures fault { IfErr result (IsTold (walk (judge_entry arch.now) over_entries 1 [] (lines bytes.now))) }
 {
