@@ -261,7 +261,10 @@ pub fn read_record(alloc: Global, arch: &Arch, bytes: &[u8]) -> Result<Events, R
             kind: RecordKind::Long,
         });
     }
-    let entries = entries_of(alloc, arch, bytes)?;
+    let entries = match entries_of(alloc, arch, bytes) {
+        Ok(entries) => entries,
+        Err(fault) => return Err(fault),
+    };
     let kinds = kinds_of(alloc, arch.sources())?;
     let depths = depths_of(alloc, arch.sources())?;
     Ok(Events {
