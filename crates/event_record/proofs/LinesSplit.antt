@@ -6,10 +6,10 @@ use Rattle.event_record.specs.declared.run.Sort.TheVariants as sort
 use Rattle.event_record.specs.Lines.{Bytes, led_by, lines, line_led, words, word_led, is_blank, is_at_blank, behind_word, from_blank}
 use Rattle.event_record.specs.Runs.{is_of}
 
-take_more : (m : ℕ) (b : ℕ) (bs : Bytes) → take (1 + m) (b ∷ bs) ≡ b ∷ take m bs
+pub take_more : (m : ℕ) (b : ℕ) (bs : Bytes) → take (1 + m) (b ∷ bs) ≡ b ∷ take m bs
 take_more m b bs = let e : 1 + m ≡ suc m = omega arith in ap (λ k. take k (b ∷ bs)) e
 
-drop_more : (m : ℕ) (b : ℕ) (bs : Bytes) → drop (1 + m) (b ∷ bs) ≡ drop m bs
+pub drop_more : (m : ℕ) (b : ℕ) (bs : Bytes) → drop (1 + m) (b ∷ bs) ≡ drop m bs
 drop_more m b bs = let e : 1 + m ≡ suc m = omega arith in ap (λ k. drop k (b ∷ bs)) e
 
 drop_past : (m : ℕ) (b : ℕ) (bs : Bytes) → drop (1 + m + 1) (b ∷ bs) ≡ drop (m + 1) bs

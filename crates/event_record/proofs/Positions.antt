@@ -1,6 +1,6 @@
 -- The place of the first element that passes a test.
-use Rattle.std.proofs.Common.{◌≡◌, ◌<◌, ◌≤◌, ℕ, ◌+◌, List, length, drop, get_or, map, Bool, true, false, not, cond, refl, ap, sym, ◌∙◌, arith, Option, Some, None}
-use Rattle.std.specs.Prelude.{nat_lt, position}
+use Rattle.std.proofs.Common.{◌≡◌, ◌<◌, ◌≤◌, ℕ, zero, suc, ◌+◌, List, [], ◌∷◌, length, drop, get_or, map, Bool, true, false, not, cond, refl, ap, sym, ◌∙◌, arith, Option, Some, None}
+use Rattle.std.specs.Prelude.{nat_lt, position, slice_get}
 use Rattle.std.specs.List.{prefix_len, position_or_len}
 use Rattle.std.proofs.lemmas.Bool.{ltb-true, lt-ltb, le-ltb}
 use Rattle.std.proofs.lemmas.List.{get_or-map, length-map}
@@ -42,3 +42,8 @@ seen_more f p xs i x h e t g = passes_more p (map f xs) i (f x) (omega (arith, h
 
 pub seen_none : {X Y : Type 0} (f : X → Y) (p : Y → Bool) (xs : List X) (i : ℕ) → length xs ≤ i → PassedBy p (map f xs) i → None ≡ position p (map f xs)
 seen_none f p xs i h g = passes_none p (map f xs) i (omega (arith, h, length-map xs f)) g
+
+pub slice_there : {X : Type 0} (xs : List X) (i : ℕ) → i < length xs → slice_get xs i ≡ None → ⊥
+slice_there [] i h e = omega (arith, h)
+slice_there (x ∷ xs) zero h e = cc
+slice_there (x ∷ xs) (suc i) h e = slice_there xs i (omega (arith, h)) e

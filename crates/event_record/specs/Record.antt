@@ -38,9 +38,12 @@ is_signal kind.Signal = true
 is_signal kind.Init = false
 is_signal (kind.Period ms) = false
 
+abbrev pub names_signal : Bytes → Source → Bool
+names_signal name s = bytes_eq s.name name && is_signal s.kind
+
 -- the number of the signal source with this name
 abbrev pub signal_at : List Source → Bytes → Option ℕ
-signal_at sources name = position (λ s. bytes_eq s.name name && is_signal s.kind) sources
+signal_at sources name = position (names_signal name) sources
 
 abbrev pub signal_named : Arch → Bytes → Option ℕ
 signal_named arch name = signal_at arch.sources name

@@ -39,8 +39,12 @@ abbrev pub form_by : List Bytes → Bytes → Said
 form_by [] text = nothing
 form_by (w ∷ ws) text = cond (bytes_eq w (codes "tick")) (tick_form ws) (cond (bytes_eq w (codes "sig")) (sig_form ws text) no_form)
 
+-- what words say, where this text stands behind the second
+abbrev pub said_by : List Bytes → Bytes → Said
+said_by ws text = cond (say_nothing ws) nothing (form_by ws text)
+
 abbrev pub said_of : Bytes → Said
-said_of l = cond (say_nothing (words l)) nothing (form_by (words l) (behind_word (behind_word l)))
+said_of l = said_by (words l) (behind_word (behind_word l))
 
 abbrev pub judged_value : ℕ → Option Value → Judged Entry RecordKind
 judged_value x None = is_wrong wrong.Value

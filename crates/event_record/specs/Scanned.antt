@@ -68,9 +68,13 @@ abbrev mutual
   take_values (shape s ss) ts = then_more (take_values ss) (take_value s ts)
 
 -- the value that is all of the tokens
+abbrev pub is_none : List Token → Bool
+is_none [] = true
+is_none (t ∷ ts) = false
+
 abbrev pub whole_value : Taken Value → Option Value
-whole_value (Some (v, [])) = Some v
-whole_value _ = None
+whole_value None = None
+whole_value (Some (v, ts)) = cond (is_none ts) (Some v) None
 
 -- the shapes of fields
 abbrev pub shapes_at : List Shape → List (Name × TyMade) → Shapes

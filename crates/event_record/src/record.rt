@@ -1,11 +1,11 @@
 //! Reads event records.
-ghost use Rattle.std.specs.Prelude.{◌≡◌, ◌≤◌, ◌<◌, ◌^◌, [], ◌∷◌, length, map, replicate, IfOk, IfErr, MatchOption, Ok};
+ghost use Rattle.std.specs.Prelude.{◌≡◌, ◌≤◌, ◌<◌, ◌^◌, [], ◌∷◌, length, map, replicate, IfOk, IfErr, OnOk, MatchOption, Ok};
 ghost use Rattle.tower_syntax.specs.Arch.{tick};
 ghost use Rattle.tower_syntax.specs.View.{source_of, entry_of, events_of};
 ghost use Rattle.event_record.specs.Lines.{lines, words, behind_word};
 ghost use Rattle.event_record.specs.FewWords.{listed};
 ghost use Rattle.event_record.specs.Judged.{with_line, added_or, walk, makes};
-ghost use Rattle.event_record.specs.Record.{SpellsRecord, IsRecordFault, signal_at};
+ghost use Rattle.event_record.specs.Record.{SpellsRecord, IsRecordFault, is_signal, names_signal, signal_at};
 ghost use Rattle.event_record.specs.RecordLine.{tick_form, sig_form, said_of, judged_signal, judge_entry, over_entries, IsTold};
 ghost use Rattle.event_record.specs.SaidSeen.{said_seen};
 
@@ -108,6 +108,22 @@ fn say(line: &[u8]) -> Said<'_>
     Said::NoForm
 }
 
+fn is_signal(kind: SourceKind) -> bool
+    ensures { result ≡ is_signal kind }
+{
+    match kind {
+        SourceKind::Init => false,
+        SourceKind::Period(_) => false,
+        SourceKind::Signal => true,
+    }
+}
+
+fn is_signal_named(source: &Source, name: &[u8]) -> bool
+    ensures { result ≡ names_signal name.now (source_of source.now) }
+{
+    source.name.bytes() == name && is_signal(source.kind)
+}
+
 /// The number of the signal source with this name.
 fn signal_named(sources: &[Source], name: &[u8]) -> Option<u32>
     requires { length sources.now ≤ 2 ^ 32 }
@@ -115,7 +131,7 @@ fn signal_named(sources: &[Source], name: &[u8]) -> Option<u32>
     ensures within { MatchOption result (Unit {0}) (λ x. x < length sources.now) }
 {
     for (x, source) in sources.iter().enumerate() {
-        if source.name.bytes() == name && source.kind == SourceKind::Signal {
+        if is_signal_named(source, name) {
             return Some(x as u32);
         }
     }
@@ -124,7 +140,9 @@ fn signal_named(sources: &[Source], name: &[u8]) -> Option<u32>
 
 /// Adds so many ticks, unless these are too many.
 fn add_ticks(entries: &mut Items<Entry>, n: u32) -> Result<Option<RecordKind>, NoMemory>
-    ensures { IfOk result (λ kind. added_or kind (map entry_of entries.new) ≡ with_line over_entries (map entry_of entries.old) (makes (replicate n tick))) }
+    requires { length entries.old ≤ ENTRY_LIMIT }
+    ensures few { OnOk result (length entries.new ≤ ENTRY_LIMIT) }
+    ensures added { IfOk result (λ kind. added_or kind (map entry_of entries.new) ≡ with_line over_entries (map entry_of entries.old) (makes (replicate n tick))) }
 {
     if entries.len().saturating_add(n as usize) > ENTRY_LIMIT {
         return Ok(Some(RecordKind::Many));
@@ -137,7 +155,9 @@ fn add_ticks(entries: &mut Items<Entry>, n: u32) -> Result<Option<RecordKind>, N
 
 /// Adds an entry, unless it is one too many.
 fn add_entry(entries: &mut Items<Entry>, entry: Entry) -> Result<Option<RecordKind>, NoMemory>
-    ensures { IfOk result (λ kind. added_or kind (map entry_of entries.new) ≡ with_line over_entries (map entry_of entries.old) (makes (entry_of entry ∷ []))) }
+    requires { length entries.old ≤ ENTRY_LIMIT }
+    ensures few { OnOk result (length entries.new ≤ ENTRY_LIMIT) }
+    ensures added { IfOk result (λ kind. added_or kind (map entry_of entries.new) ≡ with_line over_entries (map entry_of entries.old) (makes (entry_of entry ∷ []))) }
 {
     if entries.len() >= ENTRY_LIMIT {
         return Ok(Some(RecordKind::Many));
@@ -154,7 +174,9 @@ fn add_signal(
     name: &[u8],
     text: &[u8],
 ) -> Result<Option<RecordKind>, NoMemory>
-    ensures { IfOk result (λ kind. added_or kind (map entry_of entries.new) ≡ with_line over_entries (map entry_of entries.old) (judged_signal arch.now (signal_at arch.now.sources name.now) text.now)) }
+    requires { length entries.old ≤ ENTRY_LIMIT }
+    ensures few { OnOk result (length entries.new ≤ ENTRY_LIMIT) }
+    ensures added { IfOk result (λ kind. added_or kind (map entry_of entries.new) ≡ with_line over_entries (map entry_of entries.old) (judged_signal arch.now (signal_at arch.now.sources name.now) text.now)) }
 {
     let Some(x) = signal_named(arch.sources(), name) else {
         return Ok(Some(RecordKind::Name));
@@ -173,7 +195,9 @@ fn add_line(
     entries: &mut Items<Entry>,
     line: &[u8],
 ) -> Result<Option<RecordKind>, NoMemory>
-    ensures { IfOk result (λ kind. added_or kind (map entry_of entries.new) ≡ with_line over_entries (map entry_of entries.old) (judge_entry arch.now line.now)) }
+    requires { length entries.old ≤ ENTRY_LIMIT }
+    ensures few { OnOk result (length entries.new ≤ ENTRY_LIMIT) }
+    ensures added { IfOk result (λ kind. added_or kind (map entry_of entries.new) ≡ with_line over_entries (map entry_of entries.old) (judge_entry arch.now line.now)) }
 {
     match say(line) {
         Said::Nothing => Ok(None),
@@ -186,6 +210,7 @@ fn add_line(
 /// The entries of a text that is not too long.
 fn entries_of(alloc: Global, arch: &Arch, bytes: &[u8]) -> Result<Items<Entry>, RecordFault>
     requires { length bytes.now ≤ BYTE_LIMIT }
+    ensures few { IfOk result (λ entries. length entries ≤ ENTRY_LIMIT) }
     ensures ok { IfOk result (λ entries. walk (judge_entry arch.now) over_entries 1 [] (lines bytes.now) ≡ Ok (map entry_of entries)) }
     ensures fault { IfErr result (IsTold (walk (judge_entry arch.now) over_entries 1 [] (lines bytes.now))) }
 {
@@ -236,7 +261,10 @@ pub fn read_record(alloc: Global, arch: &Arch, bytes: &[u8]) -> Result<Events, R
             kind: RecordKind::Long,
         });
     }
-    let entries = entries_of(alloc, arch, bytes)?;
+    let entries = match entries_of(alloc, arch, bytes) {
+        Ok(entries) => entries,
+        Err(fault) => return Err(fault),
+    };
     let kinds = kinds_of(alloc, arch.sources())?;
     let depths = depths_of(alloc, arch.sources())?;
     Ok(Events {

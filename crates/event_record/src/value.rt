@@ -5,9 +5,9 @@ ghost use Rattle.tower_types.specs.View.{ty_of, fields_of, all_values_of};
 ghost use Rattle.tower_types.specs.Records.{IsTypeAmong};
 ghost use Rattle.event_record.specs.Tokens.{tokens};
 ghost use Rattle.event_record.specs.Written.{depth_limit, literal_at};
-ghost use Rattle.event_record.specs.Scanned.{may_begin, makes_value, take_literal, closed, take_each, take_values, take_value, whole_value};
+ghost use Rattle.event_record.specs.Scanned.{may_begin, makes_value, take_literal, closed, take_each, take_values, take_value, whole_value, is_none};
 ghost use Rattle.event_record.specs.Scanned.{shapes_at};
-ghost use Rattle.event_record.specs.Made.{IsTaken, IsMade};
+ghost use Rattle.event_record.specs.Made.{IsTaken, IsMade, Opens};
 
 use crate::number::{is_literal, literal_in};
 use crate::token::{Ahead, first_token};
@@ -29,32 +29,32 @@ pub(crate) fn is_value(text: &[u8]) -> bool
     ensures { result ≡ makes_value 0 false (tokens text.now) }
 {
     let mut rest = text;
-    let mut open = 0;
+    let mut depth = 0;
     let mut whole = false;
     loop {
         match first_token(rest) {
-            Ahead::End => return open == 0 && whole,
+            Ahead::End => return depth == 0 && whole,
             Ahead::Stray => return false,
             Ahead::Left(behind) => {
-                if !may_begin(open, whole) {
+                if !may_begin(depth, whole) {
                     return false;
                 }
-                open += 1;
+                depth += 1;
                 rest = behind;
             }
             Ahead::Right(behind) => {
-                if open == 0 {
+                if depth == 0 {
                     return false;
                 }
-                open -= 1;
-                whole = open == 0;
+                depth -= 1;
+                whole = depth == 0;
                 rest = behind;
             }
             Ahead::Atom(word, behind) => {
-                if !may_begin(open, whole) || !is_literal(word) {
+                if !may_begin(depth, whole) || !is_literal(word) {
                     return false;
                 }
-                whole = open == 0;
+                whole = depth == 0;
                 rest = behind;
             }
         }
@@ -95,6 +95,7 @@ fn truth_at(text: &[u8]) -> Option<Value>
     }
 }
 
+/// The value of the scalar that the text begins with.
 fn take_literal(s: Scalar, text: &[u8]) -> Option<Taken<'_>>
     ensures { IsTaken (take_literal s (tokens text.now)) result }
 {
@@ -103,7 +104,23 @@ fn take_literal(s: Scalar, text: &[u8]) -> Option<Taken<'_>>
             let value = literal_at(s, word)?;
             Some(Taken { value, rest })
         }
-        _ => None,
+        Ahead::End => None,
+        Ahead::Left(_) => None,
+        Ahead::Right(_) => None,
+        Ahead::Stray => None,
+    }
+}
+
+/// The text behind the bracket that opens a list, where one comes first.
+fn opened(text: &[u8]) -> Option<&[u8]>
+    ensures { Opens (tokens text.now) result }
+{
+    match first_token(text) {
+        Ahead::Left(rest) => Some(rest),
+        Ahead::End => None,
+        Ahead::Atom(_, _) => None,
+        Ahead::Right(_) => None,
+        Ahead::Stray => None,
     }
 }
 
@@ -120,14 +137,17 @@ fn take_value<'a>(
 {
     match t {
         Ty::Scalar(s) => Ok(take_literal(*s, text)),
-        Ty::Array(len, element) => match first_token(text) {
-            Ahead::Left(inside) => take_array(alloc, inside, records, *len, element.get()),
-            _ => Ok(None),
+        Ty::Array(len, element) => match opened(text) {
+            Some(inside) => take_array(alloc, inside, records, *len, element.get()),
+            None => Ok(None),
         },
-        Ty::Rec(r) => match first_token(text) {
-            Ahead::Left(inside) => take_record(alloc, inside, records, records.fields(*r)),
-            _ => Ok(None),
-        },
+        Ty::Rec(r) => {
+            let fields = records.fields(*r);
+            match opened(text) {
+                Some(inside) => take_record(alloc, inside, records, fields),
+                None => Ok(None),
+            }
+        }
     }
 }
 
@@ -136,11 +156,14 @@ fn closed(parts: Items<Value>, text: &[u8]) -> Option<Taken<'_>>
     ensures { IsTaken (closed (Some (all_values_of parts, tokens text.now))) result }
 {
     match first_token(text) {
-        Ahead::Right(rest) => Some(Taken {
-            value: Value::Parts(parts),
-            rest,
-        }),
-        _ => None,
+        Ahead::Right(rest) => {
+            let value = Value::Parts(parts);
+            Some(Taken { value, rest })
+        }
+        Ahead::End => None,
+        Ahead::Left(_) => None,
+        Ahead::Atom(_, _) => None,
+        Ahead::Stray => None,
     }
 }
 
@@ -197,6 +220,19 @@ fn take_record<'a>(
     Ok(closed(parts, rest))
 }
 
+/// Whether no token comes.
+fn is_at_end(text: &[u8]) -> bool
+    ensures { result ≡ is_none (tokens text.now) }
+{
+    match first_token(text) {
+        Ahead::End => true,
+        Ahead::Left(_) => false,
+        Ahead::Right(_) => false,
+        Ahead::Atom(_, _) => false,
+        Ahead::Stray => false,
+    }
+}
+
 /// The value of the type that the text is.
 pub(crate) fn value_of(
     alloc: Global,
@@ -209,9 +245,12 @@ pub(crate) fn value_of(
 {
     match take_value(alloc, text, records, t)? {
         None => Ok(None),
-        Some(Taken { value, rest }) => match first_token(rest) {
-            Ahead::End => Ok(Some(value)),
-            _ => Ok(None),
-        },
+        Some(Taken { value, rest }) => {
+            if is_at_end(rest) {
+                Ok(Some(value))
+            } else {
+                Ok(None)
+            }
+        }
     }
 }
