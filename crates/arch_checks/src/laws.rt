@@ -4,6 +4,7 @@ ghost use Rattle.arch_checks.specs.Laws.{AcceptedFilesAreSafe, NumbersAreKept, T
 ghost use Rattle.arch_checks.specs.Wide.{WideTypesHaveWords, ValuesAreShallow};
 ghost use Rattle.arch_checks.specs.Laws.{OneVerdict, MemoryIsNoFault, WrittenTypesCount};
 ghost use Rattle.arch_checks.specs.WorkedFaults.{WorkedLengths, WorkedReadings, WorkedNames};
+ghost use Rattle.arch_checks.specs.WorkedNumbers.{WorkedNumbers};
 ghost use Rattle.arch_checks.specs.WorkedTypes.{WorkedLiterals, WorkedPlaces, WorkedSums, WorkedBits, WorkedComparisons, WorkedTruths, WorkedChoices, WorkedSets, WorkedCopies, WorkedHeights, WorkedFiles};
 ghost use Rattle.arch_checks.specs.WorkedSystems.{WorkedSystems, WorkedBounds, WorkedLinks};
 
@@ -55,11 +56,12 @@ pub fn worked_sizes()
     ensures { WorkedSizes }
 {}
 
-/// The first faults of texts, and texts without one, by their reading and their names.
+/// The first faults of texts, and texts without one, by their reading and their names; and texts with their numbered trees.
 pub fn worked_faults()
     ensures lengths { WorkedLengths }
     ensures readings { WorkedReadings }
     ensures names { WorkedNames }
+    ensures numbers { WorkedNumbers }
 {}
 
 /// The first faults of texts, and texts without one, by their types.
