@@ -6,7 +6,7 @@ ghost use Rattle.arch_checks.specs.Laws.{OneVerdict, MemoryIsNoFault, WrittenTyp
 ghost use Rattle.arch_checks.specs.WorkedFaults.{WorkedLengths, WorkedReadings, WorkedNames};
 ghost use Rattle.arch_checks.specs.WorkedNumbers.{WorkedNumbers};
 ghost use Rattle.arch_checks.specs.WorkedTypes.{WorkedLiterals, WorkedPlaces, WorkedSums, WorkedBits, WorkedComparisons, WorkedTruths, WorkedChoices, WorkedSets, WorkedCopies, WorkedHeights, WorkedFiles};
-ghost use Rattle.arch_checks.specs.WorkedSystems.{WorkedSystems, WorkedBounds, WorkedLinks};
+ghost use Rattle.arch_checks.specs.WorkedSystems.{WorkedSystems, WorkedBounds, WorkedLinks, WorkedWeights};
 
 /// What an accepted file keeps: its numbers name what exists and are in their ranges, each node has its type, no source
 /// reaches a cycle, and nothing is above its limit.
@@ -79,9 +79,10 @@ pub fn worked_types()
     ensures files { WorkedFiles }
 {}
 
-/// Texts that are accepted, with their systems, and the first faults of texts by their bounds and links.
+/// Texts that are accepted, with their systems and weights, and the first faults of texts by their bounds and links.
 pub fn worked_systems()
     ensures systems { WorkedSystems }
     ensures bounds { WorkedBounds }
     ensures links { WorkedLinks }
+    ensures weights { WorkedWeights }
 {}
