@@ -1,5 +1,5 @@
 -- What a text comes to by its graph, computed: that it is accepted, or a fault of its bounds or of a cycle.
-use Rattle.std.proofs.Common.{◌≡◌, inl, inr, ◌<◌, ◌≤◌, ℕ, List, [], ◌∷◌, length, Bool, true, false, nat_lt, ◌||◌, Some, None, Result, Ok, Err, refl, sym, ap, ◌∙◌, subst, arith}
+use Rattle.std.proofs.Common.{◌≡◌, inl, inr, ◌≤◌, ℕ, List, [], length, map, Bool, true, false, nat_lt, Some, None, Result, Ok, Err, refl, sym, ◌∙◌, subst, arith}
 use Rattle.std.specs.List.{list_any}
 use Rattle.std.proofs.lemmas.Bool.{false≢true, lt-ltb, ltb-true, cases_lt}
 use Rattle.tower_types.specs.Records.{saturated}
@@ -20,10 +20,10 @@ use Rattle.arch_checks.specs.declared.fault.What.TheVariants as what
 use Rattle.arch_checks.specs.Limits.{limit, work_limit}
 use Rattle.arch_checks.specs.Sizes.{deepest, widest, Counts}
 use Rattle.arch_checks.specs.Offences.{bound_fault, cycle_fault, IsFault, IsAccepted}
-use Rattle.arch_checks.specs.WorkedSystems.{HasAccepted}
+use Rattle.arch_checks.specs.WorkedSystems.{HasAccepted, Weighs}
 use Rattle.arch_checks.proofs.Trees.{named_numbered}
 use Rattle.arch_checks.proofs.Limited.{whats}
-use Rattle.arch_checks.proofs.Order.{Typed, Bounded, Acyclic, Sized, bound_is_fault, cycle_is_fault, accepted}
+use Rattle.arch_checks.proofs.Order.{Typed, Acyclic, bound_is_fault, cycle_is_fault, accepted}
 use Rattle.arch_checks.proofs.FirstFaults.{answer_to, passes, typed_text}
 
 -- ---- tests
@@ -177,3 +177,7 @@ module _ (bs : List ℕ) (a : passes (answer_to bs) ≡ true) where
   pub bound_text : nat_lt 0 (length (system_of_text bs).handlers) ≡ true → nat_lt 0 (length (handler (system_of_text bs) 0).emitters) ≡ true → is_over (handler (system_of_text bs) 0) 0 ≡ true
       → (f : Fault) → bound_fault (system_of_text bs) 0 0 ≡ f → IsFault bs f
   bound_text hs es over f told = subst (IsFault bs) told (bound_by bs (system_of_text bs) (is_ok (answer_to bs) a) hs es over)
+
+  pub weighs_text : any_over (system_of_text bs) ≡ false → shown (system_of_text bs) ≡ None → any_large (system_of_text bs) ≡ false → any_dear (system_of_text bs) ≡ false
+      → (costs : List ℕ) (m c : ℕ) → map (cost (system_of_text bs)) (source_numbers (system_of_text bs)) ≡ costs → memory (system_of_text bs) ≡ m → code (system_of_text bs) ≡ c → Weighs bs costs m c
+  weighs_text over cycle large dear costs m c e f g = (system_of_text bs, accepted_by bs (system_of_text bs) (is_ok (answer_to bs) a) over cycle large dear, e, f, g)

@@ -29,7 +29,7 @@ use Rattle.arch_order.proofs.Handlers.{numbered}
 use Rattle.arch_checks.specs.declared.fault.Fault.{Fault}
 use Rattle.arch_checks.specs.declared.fault.Fault.TheVariants as fault
 use Rattle.arch_checks.specs.Faults.{of_read, of_name, of_type}
-use Rattle.arch_checks.specs.Offences.{Standing, types_kind, Offends, reads, names, types, bound, cycle, size, work, IsFault}
+use Rattle.arch_checks.specs.Offences.{Standing, types_kind, Offends, reads, names, types, bound, cycle, size, work, IsNamed, IsFault}
 use Rattle.arch_checks.specs.WorkedFaults.{HasSystem}
 use Rattle.arch_checks.proofs.Trees.{named_once}
 use Rattle.arch_checks.proofs.Order.{Typed, read_fault, name_fault, type_fault}
@@ -130,3 +130,25 @@ blank n l =
 
 pub typed_text : (bs : List ℕ) (arch : Arch) → answer_to bs ≡ Ok arch → Typed bs arch
 typed_text bs arch e = subst (Says bs) e (answer_is_right bs)
+
+-- ---- the numbered tree of a text
+
+abbrev named_by : Raw Id → Option NameFault → Option (Raw Link)
+named_by raw None = Some (linked meant raw)
+named_by raw (Some f) = None
+
+abbrev named_in : Result (Raw Id) ReadFault → Option (Raw Link)
+named_in (Ok raw) = named_by raw (first (sites raw))
+named_in (Err f) = None
+
+module _ (bs : List ℕ) (t : Raw Link) where
+  named_tree : (raw : Raw Id) → Spells bs raw → (o : Option NameFault) → first (sites raw) ≡ o → named_by raw o ≡ Some t → IsNamed bs t
+  named_tree raw s None e h = let l : t ≡ linked meant raw = cc in is_named bs raw t s (linked_is raw t e l)
+  named_tree raw s (Some f) e h = cc
+
+  named_of : (v : Result (Raw Id) ReadFault) → Answers bs v → named_in v ≡ Some t → IsNamed bs t
+  named_of (Ok raw) s h = named_tree raw s (first (sites raw)) refl h
+  named_of (Err f) a h = cc
+
+  pub named_text : named_in (verdict bs) ≡ Some t → IsNamed bs t
+  named_text h = named_of (verdict bs) (verdict_answers bs) h

@@ -3,7 +3,8 @@ use Rattle.std.proofs.Common.{refl}
 use Rattle.std.specs.Fmt.{digits}
 use Rattle.arch_checks.specs.WorkedFaults.{WorkedLengths, WorkedReadings, WorkedNames}
 use Rattle.arch_checks.specs.WorkedTypes.{WorkedLiterals, WorkedPlaces, WorkedSums, WorkedBits, WorkedComparisons, WorkedTruths, WorkedChoices, WorkedSets, WorkedCopies, WorkedHeights, WorkedFiles}
-use Rattle.arch_checks.proofs.FirstFaults.{faulty, system, long, blank}
+use Rattle.arch_checks.specs.WorkedNumbers.{WorkedNumbers}
+use Rattle.arch_checks.proofs.FirstFaults.{faulty, system, long, blank, named_text}
 
 pub worked_lengths : WorkedLengths
 worked_lengths = record { long = long; blank = blank }
@@ -200,3 +201,7 @@ worked_files = record {
   called_number = faulty _ _ refl;
   first_handler = faulty _ _ refl;
 }
+
+pub worked_numbers : WorkedNumbers
+unfolding digits
+worked_numbers = record { over_the_file = named_text _ _ refl; anew = named_text _ _ refl }

@@ -4,8 +4,8 @@ use Rattle.std.specs.Prelude.{codes}
 use Rattle.std.specs.Fmt.{digits}
 use Rattle.tower_syntax.specs.Examples as example
 use Rattle.arch_checks.specs.declared.fault.Fault.TheVariants as fault
-use Rattle.arch_checks.specs.WorkedSystems.{WorkedSystems, emitting, linking, WorkedBounds, WorkedLinks}
-use Rattle.arch_checks.proofs.Computed.{accepted_by, accepted_text, cycle_text, bound_text}
+use Rattle.arch_checks.specs.WorkedSystems.{WorkedSystems, emitting, linking, WorkedBounds, WorkedLinks, WorkedWeights}
+use Rattle.arch_checks.proofs.Computed.{accepted_by, accepted_text, cycle_text, bound_text, weighs_text}
 
 pub worked_systems : WorkedSystems
 unfolding digits
@@ -38,4 +38,11 @@ worked_links = record {
   to_itself = cycle_text (linking [] (codes "(handler h a (emitter e a 1))")) refl refl (record { source = 0; walk = 1 ∷ [] }) refl (fault.Cycle (codes "s") (codes "h" ∷ [])) refl;
   not_reached = accepted_text (linking [] (codes "(handler h b (emitter e b 1))")) refl refl refl refl refl;
   bound_before_cycle = bound_text (linking (codes "(callback v (emit e v) (emit e v))") (codes "(handler h a (emitter e a 1))")) refl refl refl refl (fault.Bound (codes "g") (codes "e") 2 1) refl;
+}
+
+pub worked_weights : WorkedWeights
+unfolding digits
+worked_weights = record {
+  unused = weighs_text _ refl refl refl refl refl _ _ _ refl refl refl;
+  whole = weighs_text _ refl refl refl refl refl _ _ _ refl refl refl;
 }

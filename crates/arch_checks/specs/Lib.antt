@@ -9,6 +9,7 @@ pub mod Kept
 pub mod Wide
 pub mod WorkedSizes
 pub mod WorkedFaults
+pub mod WorkedNumbers
 pub mod WorkedTypes
 pub mod WorkedSystems
 pub mod Laws

@@ -1,5 +1,5 @@
 -- Texts with their first faults, by reading and by names, and texts without one. Each row is a text.
-use Rattle.std.specs.Prelude.{◌<◌, ◌≤◌, ℕ, List, [], ◌∷◌, ◌++◌, length, replicate, codes}
+use Rattle.std.specs.Prelude.{◌<◌, ◌≤◌, ℕ, List, ◌∷◌, ◌++◌, length, replicate, codes}
 use Rattle.tower_syntax.specs.Arch.{Arch}
 use Rattle.arch_names.specs.declared.fault.Sort.TheVariants as sort
 use Rattle.arch_checks.specs.declared.fault.Fault.{Fault}

@@ -1,7 +1,8 @@
 -- Texts that are accepted, as which systems; and texts whose first fault is in their bounds or links.
-use Rattle.std.specs.Prelude.{ℕ, List, [], ◌∷◌, ◌++◌, codes}
+use Rattle.std.specs.Prelude.{◌≡◌, ℕ, List, [], ◌∷◌, ◌++◌, map, codes}
 use Rattle.tower_syntax.specs.Arch.{Arch}
 use Rattle.tower_syntax.specs.Examples as example
+use Rattle.tower_syntax.specs.Weights.{cost, memory, code, source_numbers}
 use Rattle.arch_checks.specs.declared.fault.Fault.TheVariants as fault
 use Rattle.arch_checks.specs.Offences.{IsFault, IsAccepted}
 
@@ -43,3 +44,13 @@ pub record WorkedLinks : Type 0 where
   -- a cycle that no source reaches is no fault
   pub not_reached : HasAccepted (linking [] (codes "(handler h b (emitter e b 1))"))
   pub bound_before_cycle : IsFault (linking (codes "(callback v (emit e v) (emit e v))") (codes "(handler h a (emitter e a 1))")) (fault.Bound (codes "g") (codes "e") 2 1)
+
+-- the text is accepted, and these are the costs of its sources and its other weights
+abbrev pub Weighs : List ℕ → List ℕ → ℕ → ℕ → Type 0
+Weighs bs costs m c = (arch : Arch) × IsAccepted bs arch × (map (cost arch) (source_numbers arch) ≡ costs) × (memory arch ≡ m) × (code arch ≡ c)
+
+pub record WorkedWeights : Type 0 where
+  -- a name of a loop has one word, the message and all names count twice, and emitters count unused and with the bound 0 too
+  pub unused : Weighs (codes "(tower t (signal s u8 1) (channel c u8) (monitor m (handler h s (emitter e c 0) (emitter f c 2) (callback v (for i 3 (let q v)) (local l (array 2 u8))))))") (508 ∷ []) 145 388
+  -- an emission of a place that is no scalar reads nothing
+  pub whole : Weighs (codes "(tower t (record r (field a u8) (field b u8)) (signal s r 1) (channel c r) (monitor m (handler h s (emitter e c 1) (callback v (emit e v)))))") (388 ∷ []) 140 356

@@ -4,8 +4,9 @@ ghost use Rattle.arch_checks.specs.Laws.{AcceptedFilesAreSafe, NumbersAreKept, T
 ghost use Rattle.arch_checks.specs.Wide.{WideTypesHaveWords, ValuesAreShallow};
 ghost use Rattle.arch_checks.specs.Laws.{OneVerdict, MemoryIsNoFault, WrittenTypesCount};
 ghost use Rattle.arch_checks.specs.WorkedFaults.{WorkedLengths, WorkedReadings, WorkedNames};
+ghost use Rattle.arch_checks.specs.WorkedNumbers.{WorkedNumbers};
 ghost use Rattle.arch_checks.specs.WorkedTypes.{WorkedLiterals, WorkedPlaces, WorkedSums, WorkedBits, WorkedComparisons, WorkedTruths, WorkedChoices, WorkedSets, WorkedCopies, WorkedHeights, WorkedFiles};
-ghost use Rattle.arch_checks.specs.WorkedSystems.{WorkedSystems, WorkedBounds, WorkedLinks};
+ghost use Rattle.arch_checks.specs.WorkedSystems.{WorkedSystems, WorkedBounds, WorkedLinks, WorkedWeights};
 
 /// What an accepted file keeps: its numbers name what exists and are in their ranges, each node has its type, no source
 /// reaches a cycle, and nothing is above its limit.
@@ -55,11 +56,12 @@ pub fn worked_sizes()
     ensures { WorkedSizes }
 {}
 
-/// The first faults of texts, and texts without one, by their reading and their names.
+/// The first faults of texts, and texts without one, by their reading and their names; and texts with their numbered trees.
 pub fn worked_faults()
     ensures lengths { WorkedLengths }
     ensures readings { WorkedReadings }
     ensures names { WorkedNames }
+    ensures numbers { WorkedNumbers }
 {}
 
 /// The first faults of texts, and texts without one, by their types.
@@ -77,9 +79,10 @@ pub fn worked_types()
     ensures files { WorkedFiles }
 {}
 
-/// Texts that are accepted, with their systems, and the first faults of texts by their bounds and links.
+/// Texts that are accepted, with their systems and weights, and the first faults of texts by their bounds and links.
 pub fn worked_systems()
     ensures systems { WorkedSystems }
     ensures bounds { WorkedBounds }
     ensures links { WorkedLinks }
+    ensures weights { WorkedWeights }
 {}
