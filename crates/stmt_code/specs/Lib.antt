@@ -5,3 +5,5 @@ pub mod Section
 pub mod Codes
 pub mod There
 pub mod Seen
+pub mod Turns
+pub mod Sizes

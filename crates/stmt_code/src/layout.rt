@@ -54,7 +54,7 @@ impl<'a> Model for Layout<'a> {
 impl<'a> Layout<'a> {
     /// The callback `i` of a handler of that monitor.
     pub(crate) fn new(scope: Scope<'a>, monitor: u32, frame: &'a Frame, i: usize) -> Layout<'a>
-        requires { monitor ≡ scope.entry.handler.monitor }
+        requires { monitor ≡ scope.handler.monitor }
         ensures { result ≡ layout_of scope.entry.arch scope.entry.handler frame.now i scope.entry.body }
     {
         let binders = match frame.binders.as_slice().get(i) {
@@ -104,6 +104,7 @@ impl<'a> Layout<'a> {
     }
 
     /// The words of the monitor's first `k` states.
+    #[tactic(auto, using(crate::proofs::Offsets::words_before_more))]
     fn state_words(&self, k: u32) -> Result<u32, NoMemory>
         ensures { IfOk result (λ n. n ≡ words_before self.now.scope.states k) }
     {

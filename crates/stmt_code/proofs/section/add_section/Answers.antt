@@ -1,0 +1,9 @@
+use Rattle.tower_syntax.specs.View.{handler_of}
+use Rattle.stmt_code.proofs.Sectioned.{section_made}
+use Rattle.stmt_code.proofs.section.add_section.Goals as goal
+
+pub returns-clause-ok : goal.returns-clause-ok
+returns-clause-ok c =
+    section_made c.args.arch.now (handler_of c.args.h.now) c.args.frame.now c.args.code.now c.push.new.self c.add_cleared.new.code c.add_bodies.new.code c.push-2.new.self c.in_ok-emitters.emitters
+    ?
+    c.in_ok-push.ensures.ok c.in_ok-add_cleared.ensures.ok c.in_ok-add_bodies.ensures.ok c.in_ok-push-2.ensures.ok
