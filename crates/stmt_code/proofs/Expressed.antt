@@ -43,8 +43,8 @@ pub cond_made : (w : Layout) (old c1 c2 c3 c4 c5 new : List Instr) (i j : Instr)
     → Made w old new e
 cond_made w old c1 c2 c3 c4 c5 new i j test jump e c a b c' a' b' is first second third h1 ht h2 h3 hj h4 h5 h6 =
     let tree : expr_of e ≡ choose (expr_of c') (expr_of a') (expr_of b') =
-        ap expr_of is ∙ expr_of-Cond c a b ∙ ap (λ x. choose (expr_of x) (expr_of a) (expr_of b)) (sym first)
-        ∙ ap (λ x. choose (expr_of c') (expr_of x) (expr_of b)) (sym second) ∙ ap (λ x. choose (expr_of c') (expr_of a') (expr_of x)) (sym third) in
+    ap expr_of is ∙ expr_of-Cond c a b ∙ ap (λ x. choose (expr_of x) (expr_of a) (expr_of b)) (sym first)
+    ∙ ap (λ x. choose (expr_of c') (expr_of x) (expr_of b)) (sym second) ∙ ap (λ x. choose (expr_of c') (expr_of a') (expr_of x)) (sym third) in
     let P : Expr → Type 0 = λ x. new ≡ old ++ listed (expr_code w (length old) x) in
     subst P (sym tree)
     (choice_made (λ n. expr_code w n (expr_of c')) (λ n. expr_code w n (expr_of a')) (λ n. expr_code w n (expr_of b')) old c1 c2 c3 c4 c5 new i j test jump h1 ht h2 h3 hj h4 h5 h6)

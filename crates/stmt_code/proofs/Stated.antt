@@ -36,8 +36,8 @@ pub branch_made : (w : Layout) (old c1 c2 c3 c4 c5 new : List Instr) (i j : Inst
     → new ≡ old ++ listed (stmt_code w (length old) (stmt_of s))
 branch_made w old c1 c2 c3 c4 c5 new i j test jump s e xs ys xs' ys' is first second h1 ht h2 h3 hj h4 h5 h6 =
     let tree : stmt_of s ≡ branch (expr_of e) (all_stmts_of xs') (all_stmts_of ys') =
-        ap stmt_of is ∙ stmt_of-Branch e xs ys ∙ ap (λ zs. branch (expr_of e) (all_stmts_of zs) (all_stmts_of ys)) (sym first)
-        ∙ ap (λ zs. branch (expr_of e) (all_stmts_of xs') (all_stmts_of zs)) (sym second) in
+    ap stmt_of is ∙ stmt_of-Branch e xs ys ∙ ap (λ zs. branch (expr_of e) (all_stmts_of zs) (all_stmts_of ys)) (sym first)
+    ∙ ap (λ zs. branch (expr_of e) (all_stmts_of xs') (all_stmts_of zs)) (sym second) in
     let P : Stmt → Type 0 = λ x. new ≡ old ++ listed (stmt_code w (length old) x) in
     subst P (sym tree)
     (choice_made (λ n. expr_code w n (expr_of e)) (λ n. stmts_code w n (all_stmts_of xs')) (λ n. stmts_code w n (all_stmts_of ys')) old c1 c2 c3 c4 c5 new i j test jump h1 ht h2 h3 hj h4 h5 h6)
@@ -63,8 +63,8 @@ pub stmts_next : (w : Layout) (xs : List StmtValue) (i : ℕ) (y : StmtValue) (o
 stmts_next w xs i y old new within read made =
     let rest = all_stmts_of (drop (i + 1) xs) in
     let list : all_stmts_of (drop i xs) ≡ Stmts.stmt (stmt_of y) rest =
-        ap all_stmts_of (drop-cons xs i y within) ∙ ap (λ z. Stmts.stmt (stmt_of z) (all_stmts_of (drop (suc i) xs))) (sym read)
-        ∙ ap (λ j. Stmts.stmt (stmt_of y) (all_stmts_of (drop j xs))) (sym (add-one i)) in
+    ap all_stmts_of (drop-cons xs i y within) ∙ ap (λ z. Stmts.stmt (stmt_of z) (all_stmts_of (drop (suc i) xs))) (sym read)
+    ∙ ap (λ j. Stmts.stmt (stmt_of y) (all_stmts_of (drop j xs))) (sym (add-one i)) in
     then old new (new ++ listed (stmts_code w (length new) rest)) (stmt_code w (length old) (stmt_of y)) (λ n. stmts_code w n rest) made refl
     ∙ ap (λ ss. old ++ listed (stmts_code w (length old) ss)) (sym list)
 
@@ -107,8 +107,8 @@ copy_made w old c1 c2 c3 c4 new p q to source temps second width one two is_to i
     let keeps_source : c4 ≡ c3 ++ listed (kept s.moving s.index) = h4 ∙ ap (λ x. c3 ++ listed (kept x.moving x.index)) source_is in
     let all = words (place_shape w.scope p) in
     let copied : new ≡ c4 ++ listed (words_copied t s 0 all) =
-        h5 ∙ ap (λ x. c4 ++ listed (words_copied x (moved_of source) 0 width)) to_is ∙ ap (λ x. c4 ++ listed (words_copied t x 0 width)) source_is
-        ∙ ap (λ n. c4 ++ listed (words_copied t s 0 n)) wide in
+    h5 ∙ ap (λ x. c4 ++ listed (words_copied x (moved_of source) 0 width)) to_is ∙ ap (λ x. c4 ++ listed (words_copied t x 0 width)) source_is
+    ∙ ap (λ n. c4 ++ listed (words_copied t s 0 n)) wide in
     let first = index_code w (length old) p ▸ kept t.moving t.index in
     let one_made : c2 ≡ old ++ listed first = then old c1 c2 (index_code w (length old) p) (λ n. kept t.moving t.index) h1 keeps_to in
     let two_made : c4 ≡ c2 ++ listed (index_code w (length c2) q ▸ kept s.moving s.index) = then c2 c3 c4 (index_code w (length c2) q) (λ n. kept s.moving s.index) h3 keeps_source in

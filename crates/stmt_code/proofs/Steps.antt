@@ -90,9 +90,6 @@ on_moving w begun s old c1 c2 c3 y e width is moving h1 wide h2 h3 =
     let made : c3 ≡ old ++ listed (index_piece w (length old) begun s (expr_of e)) = then old c1 c3 (expr_code w (length old) (expr_of e)) (λ n. scaled (words (element_shape s)) ▸ added begun) h1 tail in
     subst (GoesOn w begun s old c3) (sym place) (goes_moving w begun s old c3 (expr_of e) (none_of (given_index (expr_of e)) moving) made)
 
-
-
-
 -- nothing is added where nothing is to be added
 pub added_none : (code : List Instr) (begun : Bool) → begun ≡ false → code ≡ code ++ listed (added begun)
 added_none code begun h = sym (append-nil code) ∙ ap (λ b. code ++ listed (added b)) (sym h)

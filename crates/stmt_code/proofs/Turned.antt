@@ -35,13 +35,13 @@ turns_made a n b old c1 c2 c3 new i test turn h1 at back h2 h3 h4 =
     let x = Jz (length c3) in
     let head : c1 ≡ front ++ i ∷ [] = h1 ∙ sym (append_assoc old (loop_head a n) (i ∷ [])) in
     let third : c3 ≡ front ++ i ∷ (lb ++ loop_end a turn) =
-        h3 ∙ ap (λ c. c ++ loop_end a turn) (h2 ∙ ap (λ c. c ++ lb) head) ∙ append_assoc (front ++ i ∷ []) lb (loop_end a turn)
-        ∙ append_assoc front (i ∷ []) (lb ++ loop_end a turn) in
+    h3 ∙ ap (λ c. c ++ loop_end a turn) (h2 ∙ ap (λ c. c ++ lb) head) ∙ append_assoc (front ++ i ∷ []) lb (loop_end a turn)
+    ∙ append_assoc front (i ∷ []) (lb ++ loop_end a turn) in
     let front_long : length front ≡ from + 5 = length-append old (loop_head a n) in
     let test_at : test ≡ length front = omega (arith, at, front_long) in
     let made : new ≡ front ++ x ∷ (lb ++ loop_end a turn) =
-        h4 ∙ ap (λ c. slice_set c test x) third ∙ ap (λ m. slice_set (front ++ i ∷ (lb ++ loop_end a turn)) m x) test_at
-        ∙ set-append_seam front i (lb ++ loop_end a turn) x in
+    h4 ∙ ap (λ c. slice_set c test x) third ∙ ap (λ m. slice_set (front ++ i ∷ (lb ++ loop_end a turn)) m x) test_at
+    ∙ set-append_seam front i (lb ++ loop_end a turn) x in
     let c1_long : length c1 ≡ (from + 2) + 4 = ap length head ∙ length-append front (i ∷ []) ∙ omega (arith, front_long) in
     let c2_long : length c2 ≡ end (length c1) (b (length c1)) = place_behind c1 c2 (b (length c1)) h2 in
     let c3_long : length c3 ≡ end (length c1) (b (length c1)) + 5 = ap length h3 ∙ length-append c2 (loop_end a turn) ∙ ap (λ m. m + 5) c2_long in

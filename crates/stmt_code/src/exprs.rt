@@ -42,11 +42,7 @@ fn add_scaled(code: &mut Code, width: u32) -> Result<(), NoMemory>
 
 /// Adds the instructions of an expression, or some of them.
 #[cycle(exprs)]
-pub(crate) fn add_expr(
-    e: &Expr,
-    layout: &Layout<'_>,
-    code: &mut Code,
-) -> Result<(), NoMemory>
+pub(crate) fn add_expr(e: &Expr, layout: &Layout<'_>, code: &mut Code) -> Result<(), NoMemory>
     ensures ok { OnOk result (code.new ≡ code.old ++ listed (expr_code layout.now (length code.old) (expr_of e.now))) }
     ensures keeps { Keeps code.old code.new }
 {
@@ -87,11 +83,7 @@ pub(crate) fn add_expr(
 
 /// Adds what leaves the moving part of a place's offset, or some of it.
 #[cycle(exprs)]
-pub(crate) fn add_index(
-    p: &Place,
-    layout: &Layout<'_>,
-    code: &mut Code,
-) -> Result<(), NoMemory>
+pub(crate) fn add_index(p: &Place, layout: &Layout<'_>, code: &mut Code) -> Result<(), NoMemory>
     ensures ok { OnOk result (code.new ≡ code.old ++ listed (index_code layout.now (length code.old) (place_of p.now))) }
     ensures keeps { Keeps code.old code.new }
 {

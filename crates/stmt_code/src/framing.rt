@@ -29,7 +29,12 @@ fn lay(end: &mut u32, weight: u64) -> Result<u32, NoMemory>
 }
 
 /// Lays out the names of a callback.
-fn lay_names(alloc: Global, arch: &Arch, end: &mut u32, fields: &[(Name, Ty)]) -> Result<Items<u32>, NoMemory>
+fn lay_names(
+    alloc: Global,
+    arch: &Arch,
+    end: &mut u32,
+    fields: &[(Name, Ty)],
+) -> Result<Items<u32>, NoMemory>
     requires { AreNumberedFields (length arch.now.records) (fields_of fields.now) }
     ensures { IfOk result (λ addresses.
         (addresses ≡ laid end.old (words_of_fields arch.now (fields_of fields.now)))
@@ -44,7 +49,12 @@ fn lay_names(alloc: Global, arch: &Arch, end: &mut u32, fields: &[(Name, Ty)]) -
 }
 
 /// Lays out the names of all callbacks.
-fn lay_bodies(alloc: Global, arch: &Arch, end: &mut u32, bodies: &[Body]) -> Result<Items<Items<u32>>, NoMemory>
+fn lay_bodies(
+    alloc: Global,
+    arch: &Arch,
+    end: &mut u32,
+    bodies: &[Body],
+) -> Result<Items<Items<u32>>, NoMemory>
     requires { All (λ b. AreNumberedFields (length arch.now.records) b.binders) (map body_of bodies.now) }
     ensures { IfOk result (λ binders.
         (binders ≡ binders_laid arch.now end.old (map body_of bodies.now))
@@ -59,7 +69,12 @@ fn lay_bodies(alloc: Global, arch: &Arch, end: &mut u32, bodies: &[Body]) -> Res
 }
 
 /// Lays out a message of each emitter.
-fn lay_messages(alloc: Global, arch: &Arch, end: &mut u32, emitters: &[Emitter]) -> Result<Items<u32>, NoMemory>
+fn lay_messages(
+    alloc: Global,
+    arch: &Arch,
+    end: &mut u32,
+    emitters: &[Emitter],
+) -> Result<Items<u32>, NoMemory>
     requires { All (λ e. e.channel < length arch.now.channels) (map emitter_of emitters.now) }
     ensures { IfOk result (λ scratch.
         (scratch ≡ laid end.old (map (emitter_words arch.now) (map emitter_of emitters.now)))

@@ -41,13 +41,13 @@ impl<'a> Model for Layout<'a> {
     ghost use Rattle.channel_graph.specs.Site.{scope_at};
 
     ghost view = { λ l. record {
-        scope = scope_at l.scope;
-        monitor = l.monitor;
-        param = l.param;
-        binders = l.binders.now;
-        temps = l.temps;
-        scratch = l.scratch.now;
-        first_buffer = l.first_buffer;
+      scope = scope_at l.scope;
+      monitor = l.monitor;
+      param = l.param;
+      binders = l.binders.now;
+      temps = l.temps;
+      scratch = l.scratch.now;
+      first_buffer = l.first_buffer;
     } };
 }
 
@@ -77,6 +77,14 @@ impl<'a> Layout<'a> {
         ensures { result ≡ self.now.temps }
     {
         self.temps
+    }
+
+    /// The second of the two words for moving indices.
+    pub(crate) fn second_temp(&self) -> Result<u32, NoMemory>
+        ensures { IfOk result (λ n. n ≡ self.now.temps + 1) }
+    {
+        let next = self.temps.checked_add(1).ok_or(NoMemory)?;
+        Ok(next)
     }
 
     /// The address of a name that the callback binds.

@@ -47,9 +47,9 @@ fn add_copy(p: &Place, q: &Place, layout: &Layout<'_>, code: &mut Code) -> Resul
     ensures ok { OnOk result (code.new ≡ code.old ++ listed (copy_code layout.now (length code.old) (place_of p.now) (place_of q.now))) }
     ensures keeps { Keeps code.old code.new }
 {
-    let temps = layout.temps();
-    let second = temps.checked_add(1).ok_or(NoMemory)?;
-    let to = locate(layout, p, temps)?;
+    let first = layout.temps();
+    let second = layout.second_temp()?;
+    let to = locate(layout, p, first)?;
     let source = locate(layout, q, second)?;
     let width = place_words(layout, p)?;
     add_index(p, layout, code)?;
@@ -89,7 +89,11 @@ fn add_loop_end(code: &mut Code, address: u32, turn: u32) -> Result<(), NoMemory
 
 /// Adds the instructions of statements, or some of them.
 #[cycle(stmts)]
-pub(crate) fn add_stmts(stmts: &[Stmt], layout: &Layout<'_>, code: &mut Code) -> Result<(), NoMemory>
+pub(crate) fn add_stmts(
+    stmts: &[Stmt],
+    layout: &Layout<'_>,
+    code: &mut Code,
+) -> Result<(), NoMemory>
     ensures ok { OnOk result (code.new ≡ code.old ++ listed (stmts_code layout.now (length code.old) (all_stmts_of stmts.now))) }
     ensures keeps { Keeps code.old code.new }
 {

@@ -20,7 +20,8 @@ fn has_section(alloc: Global, text: &[u8], wanted: &[Instr]) -> Result<bool, Fai
 
 #[test]
 fn counts_beats(rt: HostRuntime) -> Result<(), Fail> {
-    let text = b"(tower clock (period beat 10 5) (monitor count (state n u32) (handler tick beat (callback t (set n (+ n (u32 1)))))))";
+    let text =
+        b"(tower clock (period beat 10 5) (monitor count (state n u32) (handler tick beat (callback t (set n (+ n (u32 1)))))))";
     let wanted = [
         Instr::Lock(0),
         Instr::Push(0),
