@@ -4,3 +4,4 @@ pub mod Offsets
 pub mod Expressed
 pub mod Stated
 pub mod Sectioned
+pub mod Framed

@@ -1,7 +1,7 @@
 //! The code of a handler's section, from its LOCK to its UNLOCK.
 
 ghost use Rattle.std.specs.Prelude.{◌≡◌, ◌<◌, ◌++◌, ℕ, length, OnOk, OnErr};
-ghost use Rattle.tower_syntax.specs.Graph.{handler};
+ghost use Rattle.tower_syntax.specs.Graph.{handler as handler_at};
 ghost use Rattle.tower_syntax.specs.View.{handler_of};
 ghost use Rattle.tower_syntax.specs.WellNumbered.{IsNumberedHandler};
 ghost use Rattle.task_code.specs.Grows.{Keeps};
@@ -68,7 +68,7 @@ pub fn place_body(
     code: &mut Code,
 ) -> Result<(), NoMemory>
     requires { handler < length arch.now.handlers }
-    ensures ok { OnOk result (code.new ≡ code.old ++ listed (section_code arch.now (handler arch.now handler) frame.now (length code.old))) }
+    ensures ok { OnOk result (code.new ≡ code.old ++ listed (section_code arch.now (handler_at arch.now handler) frame.now (length code.old))) }
     ensures err { OnErr result (code.new ≡ code.old) }
 {
     let start = code.place();
