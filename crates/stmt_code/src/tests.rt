@@ -38,7 +38,8 @@ fn counts_beats(rt: HostRuntime) -> Result<(), Fail> {
 
 #[test]
 fn keeps_places(rt: HostRuntime) -> Result<(), Fail> {
-    let text = b"(tower nav (record fix (field lat i32) (field lon i32)) (signal gps fix 3) (monitor log (state ring (array 4 fix)) (state pos (ix 4)) (handler keep gps (callback f (local tmp fix) (copy tmp f) (copy (at ring pos) tmp) (set pos (+ pos (ix 4 1)))))))";
+    let text =
+        b"(tower nav (record fix (field lat i32) (field lon i32)) (signal gps fix 3) (monitor log (state ring (array 4 fix)) (state pos (ix 4)) (handler keep gps (callback f (local tmp fix) (copy tmp f) (copy (at ring pos) tmp) (set pos (+ pos (ix 4 1)))))))";
     let wanted = [
         Instr::Lock(0),
         Instr::Push(0),
@@ -74,7 +75,8 @@ fn keeps_places(rt: HostRuntime) -> Result<(), Fail> {
 
 #[test]
 fn emits_in_turns(rt: HostRuntime) -> Result<(), Fail> {
-    let text = b"(tower t (signal s u8 1) (channel c u8) (output o c) (monitor m (handler h s (emitter e c 8) (callback v (for i 4 (if (< v (u8 9)) (then (emit e v)) (else (emit e (u8 1)))))))))";
+    let text =
+        b"(tower t (signal s u8 1) (channel c u8) (output o c) (monitor m (handler h s (emitter e c 8) (callback v (for i 4 (if (< v (u8 9)) (then (emit e v)) (else (emit e (u8 1)))))))))";
     let wanted = [
         Instr::Lock(0),
         Instr::Bclr(0),
