@@ -28,3 +28,10 @@ pub mod Bodies
 pub mod Lengths
 pub mod Sections
 pub mod Rows
+pub mod Steps
+pub mod Turned
+pub mod Offsets
+pub mod Expressed
+pub mod Stated
+pub mod Sectioned
+pub mod Framed

@@ -8,3 +8,5 @@ pub mod Seen
 pub mod Effects
 pub mod FrameParts
 pub mod WorkedEmissions
+pub mod Turns
+pub mod Sizes

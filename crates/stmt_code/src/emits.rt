@@ -46,7 +46,12 @@ fn add_emit_place(p: &Place, k: u32, layout: &Layout<'_>, code: &mut Code) -> Re
 }
 
 /// Adds the instructions of an `emit`, or some of them.
-pub(crate) fn add_emit(e: &Expr, k: u32, layout: &Layout<'_>, code: &mut Code) -> Result<(), NoMemory>
+pub(crate) fn add_emit(
+    e: &Expr,
+    k: u32,
+    layout: &Layout<'_>,
+    code: &mut Code,
+) -> Result<(), NoMemory>
     ensures ok { OnOk result (code.new ≡ code.old ++ listed (emit_code layout.now (length code.old) k (expr_of e.now))) }
     ensures keeps { Keeps code.old code.new }
 {

@@ -1,20 +1,27 @@
 //! The instructions of expressions.
 
-ghost use Rattle.std.specs.Prelude.{◌≡◌, ◌++◌, ◌<◌, length, OnOk};
+ghost use Rattle.std.specs.Prelude.{◌≡◌, ◌++◌, ◌<◌, ◌+◌, ◌||◌, length, slice_set, OnOk};
+ghost use Rattle.tower_syntax.specs.Tree.{Steps};
 ghost use Rattle.tower_syntax.specs.View.{expr_of, place_of};
+ghost use Rattle.channel_graph.specs.Stepped.{step_of};
+ghost use Rattle.channel_graph.specs.Scoped.{part_shape};
 ghost use Rattle.task_code.specs.Grows.{Keeps};
 ghost use Rattle.task_code.specs.Piece.{listed};
-ghost use Rattle.stmt_code.specs.Body.{expr_code, read_code, index_code, scaled};
+ghost use Rattle.stmt_code.specs.Body.{expr_code, index_code, steps_code, scaled};
+ghost use Rattle.stmt_code.specs.Seen.{step_moves};
 
 use crate::layout::Layout;
 use crate::part::Part;
-use crate::place::{is_moving, locate, step_moves};
+use crate::place::{is_moving, locate, moves_after};
 use task_code::{Code, Instr};
 use tower_syntax::{Expr, Place, PlaceStep};
 use tower_types::{BinOp, NoMemory, Scalar};
 
 /// Makes the jumps of a choice: where the test at `test` fails, to behind that at `jump`; and from there to the end.
 pub(crate) fn join(code: &mut Code, test: u32, jump: u32)
+    requires test { test < length code.old }
+    requires jump { jump < length code.old }
+    ensures { code.new ≡ slice_set (slice_set code.old test (Instr.Jz (jump + 1))) jump (Instr.Jmp (length code.old)) }
 {
     let end = code.place();
     code.patch(test, Instr::Jz(jump + 1));
@@ -35,11 +42,7 @@ fn add_scaled(code: &mut Code, width: u32) -> Result<(), NoMemory>
 
 /// Adds the instructions of an expression, or some of them.
 #[cycle(exprs)]
-pub(crate) fn add_expr(
-    e: &Expr,
-    layout: &Layout<'_>,
-    code: &mut Code,
-) -> Result<(), NoMemory>
+pub(crate) fn add_expr(e: &Expr, layout: &Layout<'_>, code: &mut Code) -> Result<(), NoMemory>
     ensures ok { OnOk result (code.new ≡ code.old ++ listed (expr_code layout.now (length code.old) (expr_of e.now))) }
     ensures keeps { Keeps code.old code.new }
 {
@@ -80,11 +83,7 @@ pub(crate) fn add_expr(
 
 /// Adds what leaves the moving part of a place's offset, or some of it.
 #[cycle(exprs)]
-pub(crate) fn add_index(
-    p: &Place,
-    layout: &Layout<'_>,
-    code: &mut Code,
-) -> Result<(), NoMemory>
+pub(crate) fn add_index(p: &Place, layout: &Layout<'_>, code: &mut Code) -> Result<(), NoMemory>
     ensures ok { OnOk result (code.new ≡ code.old ++ listed (index_code layout.now (length code.old) (place_of p.now))) }
     ensures keeps { Keeps code.old code.new }
 {
@@ -92,7 +91,7 @@ pub(crate) fn add_index(
     let mut begun = false;
     for step in p.steps.as_slice() {
         add_step(step, &part, begun, layout, code)?;
-        begun = begun || step_moves(step);
+        begun = moves_after(step, begun);
         part = part.step(step);
     }
     Ok(())
@@ -107,6 +106,9 @@ fn add_step(
     layout: &Layout<'_>,
     code: &mut Code,
 ) -> Result<(), NoMemory>
+    ensures ok { OnOk result ((rest : Steps) →
+        code.new ++ listed (steps_code layout.now (length code.new) (step_moves step.now || begun) (part_shape step.now whole.now) rest)
+        ≡ code.old ++ listed (steps_code layout.now (length code.old) begun whole.now (step_of step.now rest))) }
     ensures keeps { Keeps code.old code.new }
 {
     match step {

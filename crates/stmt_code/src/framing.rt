@@ -1,12 +1,13 @@
 //! The private words and the buffers of a handler in a task.
 
-ghost use Rattle.std.specs.Prelude.{◌≡◌, ◌<◌, ◌+◌, length, map, sum, All, IfOk, OnOk};
-ghost use Rattle.tower_types.specs.Ty.{words, shape_in, table_of};
+ghost use Rattle.std.specs.Prelude.{◌≡◌, ◌<◌, ◌+◌, ℕ, length, map, sum, All, IfOk};
+ghost use Rattle.tower_types.specs.Records.{saturated};
 ghost use Rattle.tower_types.specs.View.{fields_of};
 ghost use Rattle.tower_syntax.specs.View.{body_of, emitter_of};
 ghost use Rattle.tower_syntax.specs.Weights.{emitter_words};
 ghost use Rattle.tower_syntax.specs.WellNumbered.{AreNumberedFields};
 ghost use Rattle.stmt_code.specs.FrameOf.{laid, binder_words, binders_laid, frame_of};
+ghost use Rattle.stmt_code.specs.Sizes.{words_of_fields};
 
 use crate::part::counted;
 use arch_checks::Checked;
@@ -19,6 +20,7 @@ use tower_types::{Name, NoMemory, Ty};
 
 /// Lays out `weight` words behind those that end at `end`, and answers where they begin.
 fn lay(end: &mut u32, weight: u64) -> Result<u32, NoMemory>
+    ensures { (n : ℕ) → weight ≡ saturated n → IfOk result (λ start. (start ≡ end.old) × (end.new ≡ end.old + n)) }
 {
     let words = counted(weight)?;
     let start = *end;
@@ -27,8 +29,16 @@ fn lay(end: &mut u32, weight: u64) -> Result<u32, NoMemory>
 }
 
 /// Lays out the names of a callback.
-fn lay_names(alloc: Global, arch: &Arch, end: &mut u32, fields: &[(Name, Ty)]) -> Result<Items<u32>, NoMemory>
+fn lay_names(
+    alloc: Global,
+    arch: &Arch,
+    end: &mut u32,
+    fields: &[(Name, Ty)],
+) -> Result<Items<u32>, NoMemory>
     requires { AreNumberedFields (length arch.now.records) (fields_of fields.now) }
+    ensures { IfOk result (λ addresses.
+        (addresses ≡ laid end.old (words_of_fields arch.now (fields_of fields.now)))
+        × (end.new ≡ end.old + sum (words_of_fields arch.now (fields_of fields.now)))) }
 {
     let mut addresses = Items::new(alloc);
     for (_, ty) in fields {
@@ -39,8 +49,16 @@ fn lay_names(alloc: Global, arch: &Arch, end: &mut u32, fields: &[(Name, Ty)]) -
 }
 
 /// Lays out the names of all callbacks.
-fn lay_bodies(alloc: Global, arch: &Arch, end: &mut u32, bodies: &[Body]) -> Result<Items<Items<u32>>, NoMemory>
+fn lay_bodies(
+    alloc: Global,
+    arch: &Arch,
+    end: &mut u32,
+    bodies: &[Body],
+) -> Result<Items<Items<u32>>, NoMemory>
     requires { All (λ b. AreNumberedFields (length arch.now.records) b.binders) (map body_of bodies.now) }
+    ensures { IfOk result (λ binders.
+        (binders ≡ binders_laid arch.now end.old (map body_of bodies.now))
+        × (end.new ≡ end.old + sum (map (λ b. sum (binder_words arch.now b)) (map body_of bodies.now)))) }
 {
     let mut binders = Items::new(alloc);
     for body in bodies {
@@ -51,8 +69,16 @@ fn lay_bodies(alloc: Global, arch: &Arch, end: &mut u32, bodies: &[Body]) -> Res
 }
 
 /// Lays out a message of each emitter.
-fn lay_messages(alloc: Global, arch: &Arch, end: &mut u32, emitters: &[Emitter]) -> Result<Items<u32>, NoMemory>
+fn lay_messages(
+    alloc: Global,
+    arch: &Arch,
+    end: &mut u32,
+    emitters: &[Emitter],
+) -> Result<Items<u32>, NoMemory>
     requires { All (λ e. e.channel < length arch.now.channels) (map emitter_of emitters.now) }
+    ensures { IfOk result (λ scratch.
+        (scratch ≡ laid end.old (map (emitter_words arch.now) (map emitter_of emitters.now)))
+        × (end.new ≡ end.old + sum (map (emitter_words arch.now) (map emitter_of emitters.now)))) }
 {
     let mut scratch = Items::new(alloc);
     for emitter in emitters {

@@ -41,20 +41,20 @@ impl<'a> Model for Layout<'a> {
     ghost use Rattle.channel_graph.specs.Site.{scope_at};
 
     ghost view = { λ l. record {
-        scope = scope_at l.scope;
-        monitor = l.monitor;
-        param = l.param;
-        binders = l.binders.now;
-        temps = l.temps;
-        scratch = l.scratch.now;
-        first_buffer = l.first_buffer;
+      scope = scope_at l.scope;
+      monitor = l.monitor;
+      param = l.param;
+      binders = l.binders.now;
+      temps = l.temps;
+      scratch = l.scratch.now;
+      first_buffer = l.first_buffer;
     } };
 }
 
 impl<'a> Layout<'a> {
     /// The callback `i` of a handler of that monitor.
     pub(crate) fn new(scope: Scope<'a>, monitor: u32, frame: &'a Frame, i: usize) -> Layout<'a>
-        requires { monitor ≡ scope.entry.handler.monitor }
+        requires { monitor ≡ scope.handler.monitor }
         ensures { result ≡ layout_of scope.entry.arch scope.entry.handler frame.now i scope.entry.body }
     {
         let binders = match frame.binders.as_slice().get(i) {
@@ -77,6 +77,14 @@ impl<'a> Layout<'a> {
         ensures { result ≡ self.now.temps }
     {
         self.temps
+    }
+
+    /// The second of the two words for moving indices.
+    pub(crate) fn second_temp(&self) -> Result<u32, NoMemory>
+        ensures { IfOk result (λ n. n ≡ self.now.temps + 1) }
+    {
+        let next = self.temps.checked_add(1).ok_or(NoMemory)?;
+        Ok(next)
     }
 
     /// The address of a name that the callback binds.
@@ -104,6 +112,7 @@ impl<'a> Layout<'a> {
     }
 
     /// The words of the monitor's first `k` states.
+    #[tactic(auto, using(crate::proofs::Offsets::words_before_more))]
     fn state_words(&self, k: u32) -> Result<u32, NoMemory>
         ensures { IfOk result (λ n. n ≡ words_before self.now.scope.states k) }
     {

@@ -1,15 +1,15 @@
 //! Where the words of a place stand.
 
-ghost use Rattle.std.specs.Prelude.{◌≡◌, ◌+◌, ℕ, IfOk};
+ghost use Rattle.std.specs.Prelude.{◌≡◌, ◌+◌, ◌||◌, ℕ, IfOk};
 ghost use Rattle.tower_syntax.specs.Tree.{Steps};
 ghost use Rattle.tower_syntax.specs.View.{expr_of, place_of};
 ghost use Rattle.tower_types.specs.Ty.{words, Shape};
 ghost use Rattle.channel_graph.specs.Stepped.{step_of};
 ghost use Rattle.tower_syntax.specs.Weights.{place_shape};
 ghost use Rattle.channel_graph.specs.Scoped.{part_shape};
-ghost use Rattle.stmt_code.specs.Layout.{given_index, given_offset, is_moving, moves, fields_before, field_offset, fixed_offset};
+ghost use Rattle.stmt_code.specs.Layout.{given_index, given_offset, is_moving, field_offset, fixed_offset};
 ghost use Rattle.stmt_code.specs.Body.{moved};
-ghost use Rattle.stmt_code.specs.Seen.{moved_of};
+ghost use Rattle.stmt_code.specs.Seen.{moved_of, step_moves};
 
 use crate::layout::Layout;
 use crate::moved::Moved;
@@ -46,6 +46,7 @@ fn given_offset(e: &Expr, width: u32) -> Result<u32, NoMemory>
 }
 
 /// How many words the fields before field `k` have.
+#[tactic(auto, using(crate::proofs::Offsets::field_offset_more))]
 fn fields_before(whole: &Part<'_>, k: u32) -> Result<u32, NoMemory>
     ensures { IfOk result (λ n. n ≡ field_offset k whole.now) }
 {
@@ -71,12 +72,20 @@ fn step_offset(step: &PlaceStep, whole: &Part<'_>) -> Result<u32, NoMemory>
 }
 
 /// Whether a step is an index that moves.
-pub(crate) fn step_moves(step: &PlaceStep) -> bool
+fn step_moves(step: &PlaceStep) -> bool
+    ensures { result ≡ step_moves step.now }
 {
     match step {
         PlaceStep::Field(_) => false,
         PlaceStep::At(e) => is_moving(e),
     }
+}
+
+/// Whether a step is an index that moves, or one before it was.
+pub(crate) fn moves_after(step: &PlaceStep, before: bool) -> bool
+    ensures { result ≡ (step_moves step.now || before) }
+{
+    step_moves(step) || before
 }
 
 /// Where the words of a place stand, with the private word that keeps its index.
@@ -90,7 +99,7 @@ pub(crate) fn locate(layout: &Layout<'_>, p: &Place, index: u32) -> Result<Moved
     for step in p.steps.as_slice() {
         let more = step_offset(step, &part)?;
         offset = offset.checked_add(more).ok_or(NoMemory)?;
-        moving = moving || step_moves(step);
+        moving = moves_after(step, moving);
         part = part.step(step);
     }
     let base = layout.base(p.root)?.plus(offset)?;

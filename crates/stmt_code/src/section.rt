@@ -1,7 +1,7 @@
 //! The code of a handler's section, from its LOCK to its UNLOCK.
 
 ghost use Rattle.std.specs.Prelude.{◌≡◌, ◌<◌, ◌++◌, ℕ, length, OnOk, OnErr};
-ghost use Rattle.tower_syntax.specs.Graph.{handler};
+ghost use Rattle.tower_syntax.specs.Graph.{handler as handler_at};
 ghost use Rattle.tower_syntax.specs.View.{handler_of};
 ghost use Rattle.tower_syntax.specs.WellNumbered.{IsNumberedHandler};
 ghost use Rattle.task_code.specs.Grows.{Keeps};
@@ -9,6 +9,7 @@ ghost use Rattle.task_code.specs.Piece.{listed};
 ghost use Rattle.stmt_code.specs.Section.{cleared, bodies_code, section_code};
 
 use crate::layout::Layout;
+use crate::part::counted;
 use crate::stmts::add_stmts;
 use arch_checks::Checked;
 use channel_graph::Scope;
@@ -17,14 +18,13 @@ use tower_syntax::{Arch, Handler};
 use tower_types::NoMemory;
 
 /// Adds what empties `n` buffers from `first` on, or some of it.
-fn add_cleared(code: &mut Code, first: u32, n: usize) -> Result<(), NoMemory>
+fn add_cleared(code: &mut Code, first: u32, n: u32) -> Result<(), NoMemory>
     ensures ok { OnOk result (code.new ≡ code.old ++ listed (cleared first n)) }
     ensures keeps { Keeps code.old code.new }
 {
-    let mut buffer = first;
-    for _ in 0..n {
+    for k in 0..n {
+        let buffer = first.checked_add(k).ok_or(NoMemory)?;
         code.push(Instr::Bclr(buffer))?;
-        buffer = buffer.checked_add(1).ok_or(NoMemory)?;
     }
     Ok(())
 }
@@ -35,8 +35,11 @@ fn add_bodies(arch: &Arch, h: &Handler, frame: &Frame, code: &mut Code) -> Resul
     ensures ok { OnOk result (code.new ≡ code.old ++ listed (bodies_code arch.now (handler_of h.now) frame.now 0 (length code.old) (handler_of h.now).callbacks)) }
     ensures keeps { Keeps code.old code.new }
 {
-    for (i, body) in h.callbacks.as_slice().iter().enumerate() {
-        let layout = Layout::new(Scope::new(arch, h, body), h.monitor, frame, i);
+    let bodies = h.callbacks.as_slice();
+    for i in 0..bodies.len() {
+        let body = &bodies[i];
+        let scope = Scope::new(arch, h, body);
+        let layout = Layout::new(scope, h.monitor, frame, i);
         add_stmts(body.stmts.as_slice(), &layout, code)?;
     }
     Ok(())
@@ -48,8 +51,9 @@ fn add_section(arch: &Arch, h: &Handler, frame: &Frame, code: &mut Code) -> Resu
     ensures ok { OnOk result (code.new ≡ code.old ++ listed (section_code arch.now (handler_of h.now) frame.now (length code.old))) }
     ensures keeps { Keeps code.old code.new }
 {
+    let emitters = counted(h.emitters.len() as u64)?;
     code.push(Instr::Lock(h.monitor))?;
-    add_cleared(code, frame.first_buffer, h.emitters.len())?;
+    add_cleared(code, frame.first_buffer, emitters)?;
     add_bodies(arch, h, frame, code)?;
     code.push(Instr::Unlock(h.monitor))?;
     Ok(())
@@ -64,7 +68,7 @@ pub fn place_body(
     code: &mut Code,
 ) -> Result<(), NoMemory>
     requires { handler < length arch.now.handlers }
-    ensures ok { OnOk result (code.new ≡ code.old ++ listed (section_code arch.now (handler arch.now handler) frame.now (length code.old))) }
+    ensures ok { OnOk result (code.new ≡ code.old ++ listed (section_code arch.now (handler_at arch.now handler) frame.now (length code.old))) }
     ensures err { OnErr result (code.new ≡ code.old) }
 {
     let start = code.place();

@@ -1,10 +1,11 @@
 //! The instructions of statements.
 
-ghost use Rattle.std.specs.Prelude.{◌≡◌, ◌++◌, length, OnOk};
+ghost use Rattle.std.specs.Prelude.{◌≡◌, ◌++◌, ◌+◌, [], ◌∷◌, length, IfOk, OnOk};
 ghost use Rattle.tower_syntax.specs.View.{expr_of, place_of, stmt_of, all_stmts_of};
 ghost use Rattle.task_code.specs.Grows.{Keeps};
 ghost use Rattle.task_code.specs.Piece.{listed};
 ghost use Rattle.stmt_code.specs.Body.{zeroed, set_code, copy_code, stmt_code, stmts_code};
+ghost use Rattle.stmt_code.specs.Turns.{loop_head, loop_end};
 
 use crate::emits::add_emit;
 use crate::exprs::{add_expr, add_index, join};
@@ -46,9 +47,9 @@ fn add_copy(p: &Place, q: &Place, layout: &Layout<'_>, code: &mut Code) -> Resul
     ensures ok { OnOk result (code.new ≡ code.old ++ listed (copy_code layout.now (length code.old) (place_of p.now) (place_of q.now))) }
     ensures keeps { Keeps code.old code.new }
 {
-    let temps = layout.temps();
-    let second = temps.checked_add(1).ok_or(NoMemory)?;
-    let to = locate(layout, p, temps)?;
+    let first = layout.temps();
+    let second = layout.second_temp()?;
+    let to = locate(layout, p, first)?;
     let source = locate(layout, q, second)?;
     let width = place_words(layout, p)?;
     add_index(p, layout, code)?;
@@ -61,31 +62,38 @@ fn add_copy(p: &Place, q: &Place, layout: &Layout<'_>, code: &mut Code) -> Resul
 
 /// Adds the head of a loop that counts in the word at `address`, or some of it, and answers the place of its test.
 fn add_loop_head(code: &mut Code, address: u32, turns: u32) -> Result<u32, NoMemory>
+    ensures ok { IfOk result (λ test. (test ≡ length code.old + 5) × (code.new ≡ code.old ++ (loop_head address turns ++ Instr.Jmp 0 ∷ []))) }
+    ensures keeps { Keeps code.old code.new }
 {
     code.push(Instr::Push(0))?;
     code.push(Instr::St(address))?;
     code.push(Instr::Ld(address))?;
     code.push(Instr::Push(i128::from(turns)))?;
     code.push(Instr::Bin(BinOp::Less, Scalar::U64))?;
-    code.hold()
+    let test = code.hold()?;
+    Ok(test)
 }
 
-/// Adds the end of a loop whose test stands at `test`, or some of it.
-fn add_loop_end(code: &mut Code, address: u32, test: u32) -> Result<(), NoMemory>
+/// Adds the end of a loop whose turns begin at `turn`, or some of it.
+fn add_loop_end(code: &mut Code, address: u32, turn: u32) -> Result<(), NoMemory>
+    ensures ok { OnOk result (code.new ≡ code.old ++ loop_end address turn) }
+    ensures keeps { Keeps code.old code.new }
 {
     code.push(Instr::Ld(address))?;
     code.push(Instr::Push(1))?;
     code.push(Instr::Bin(BinOp::Add, Scalar::U64))?;
     code.push(Instr::St(address))?;
-    code.push(Instr::Jmp(test - 3))?;
-    let out = code.place();
-    code.patch(test, Instr::Jz(out));
+    code.push(Instr::Jmp(turn))?;
     Ok(())
 }
 
 /// Adds the instructions of statements, or some of them.
 #[cycle(stmts)]
-pub(crate) fn add_stmts(stmts: &[Stmt], layout: &Layout<'_>, code: &mut Code) -> Result<(), NoMemory>
+pub(crate) fn add_stmts(
+    stmts: &[Stmt],
+    layout: &Layout<'_>,
+    code: &mut Code,
+) -> Result<(), NoMemory>
     ensures ok { OnOk result (code.new ≡ code.old ++ listed (stmts_code layout.now (length code.old) (all_stmts_of stmts.now))) }
     ensures keeps { Keeps code.old code.new }
 {
@@ -127,7 +135,9 @@ fn add_stmt(stmt: &Stmt, layout: &Layout<'_>, code: &mut Code) -> Result<(), NoM
             let address = layout.binder(*b);
             let test = add_loop_head(code, address, *turns)?;
             add_stmts(body.as_slice(), layout, code)?;
-            add_loop_end(code, address, test)?;
+            add_loop_end(code, address, test - 3)?;
+            let out = code.place();
+            code.patch(test, Instr::Jz(out));
             Ok(())
         }
         Stmt::Emit(k, e) => add_emit(e, *k, layout, code),

@@ -1,6 +1,6 @@
 -- Code that grows.
 use Rattle.std.proofs.Common.{◌≡◌, ◌∙◌, ℕ, zero, suc, ◌+◌, ◌*◌, List, [], ◌∷◌, ◌++◌, length, take, arith, refl, ap, sym, append_assoc}
-use Rattle.std.proofs.lemmas.List.{length-append}
+use Rattle.std.proofs.lemmas.List.{append-nil, length-append}
 use Rattle.std.proofs.Math.Seq.{take-append_seam}
 use Rattle.task_code.specs.declared.program.Instr.{Instr}
 use Rattle.task_code.specs.declared.program.Instr.TheVariants.{Badd}
@@ -15,12 +15,8 @@ keeps_more before after more h start e = record { rest = e.rest ++ more; whole =
 -- what stood before comes back once the rest is taken away
 pub taken_back : (before after : List Instr) → Keeps before after → take (length before) after ≡ before
 taken_back before after keeps =
-    let e = keeps before (record { rest = []; whole = sym (append-none before) }) in
+    let e = keeps before (record { rest = []; whole = sym (append-nil before) }) in
     ap (take (length before)) e.whole ∙ take-append_seam before e.rest
-  where
-    append-none : (xs : List Instr) → xs ++ [] ≡ xs
-    append-none [] = refl
-    append-none (x ∷ xs) = ap (λ ys. x ∷ ys) (append-none xs)
 
 length-words_put : (a b j n : ℕ) → length (listed (words_put a b j n)) ≡ 3 * n
 length-words_put a b j zero = refl
