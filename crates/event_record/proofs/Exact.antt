@@ -103,8 +103,8 @@ from_line : {A K : Type 0} (f : Format A K) (text : Bytes) (n : ℕ) (P : ℕ �
 from_line f text n P c here there m k o =
     let h : n ≤ m = c m k o in
     elim (cases_order m n) [
-      inl e ↦ subst (λ m. P m k) (sym e) (here k (subst (λ m. Offends f text m k) e o))
-    | inr d ↦ elim d [ inl g ↦ absurd (omega (arith, h, g)) | inr g ↦ there m k g ]
+      | inl e ↦ subst (λ m. P m k) (sym e) (here k (subst (λ m. Offends f text m k) e o))
+      | inr d ↦ elim d [ inl g ↦ absurd (omega (arith, h, g)) | inr g ↦ there m k g ]
     ]
 
 -- ---- going on

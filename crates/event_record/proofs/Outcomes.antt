@@ -75,8 +75,8 @@ apart rank n m k j (inr h) (inr g) = omega (arith, h.1, g.1)
 same_fault : {A K : Type 0} (f : Format A K) (text : Bytes) (n m : ℕ) (k j : K) → IsFirst f text n k → IsFirst f text m j → (n ≡ m) × (k ≡ j)
 same_fault f text n m k j p q =
     elim (p.precedes m j q.offends) [
-      inl e ↦ (sym e.0, sym e.1)
-    | inr b ↦ elim (q.precedes n k p.offends) [ inl e ↦ (e.0, e.1) | inr c ↦ absurd (apart f.rank n m k j b c) ]
+      | inl e ↦ (sym e.0, sym e.1)
+      | inr b ↦ elim (q.precedes n k p.offends) [ inl e ↦ (e.0, e.1) | inr c ↦ absurd (apart f.rank n m k j b c) ]
     ]
 
 some_outcome : {A K : Type 0} {f : Format A K} {judge : Bytes → Judged A K} {over : ℕ → Option K} (a : Agrees f judge over) (text : Bytes) (r : Result (List A) (ℕ × K)) → length text ≤ byte_limit → over 0 ≡ None → walk judge over 1 [] (lines text) ≡ r
