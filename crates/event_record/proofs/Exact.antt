@@ -17,21 +17,21 @@ pub record Agrees {A K : Type 0} (f : Format A K) (judge : Bytes → Judged A K)
 
 -- ---- what lines make, computed
 
-abbrev put_first : {A K : Type 0} → Judged A K → Option (List A) → Option (List A)
+abbrev pub put_first : {A K : Type 0} → Judged A K → Option (List A) → Option (List A)
 put_first (makes new) (Some more) = Some (new ++ more)
 put_first (makes new) None = None
 put_first (is_wrong k) more = None
 
-abbrev all_made : {A K : Type 0} → (Bytes → Judged A K) → List Bytes → Option (List A)
+abbrev pub all_made : {A K : Type 0} → (Bytes → Judged A K) → List Bytes → Option (List A)
 all_made judge [] = Some []
 all_made judge (l ∷ ls) = put_first (judge l) (all_made judge ls)
 
-is_made : {A K : Type 0} {f : Format A K} {judge : Bytes → Judged A K} {over : ℕ → Option K} → Agrees f judge over → (ls : List Bytes) (all : List A) → AllMake f ls all → all_made judge ls ≡ Some all
+pub is_made : {A K : Type 0} {f : Format A K} {judge : Bytes → Judged A K} {over : ℕ → Option K} → Agrees f judge over → (ls : List Bytes) (all : List A) → AllMake f ls all → all_made judge ls ≡ Some all
 is_made a [] all no_lines = refl
 is_made {K = K} {judge = judge} a (l ∷ ls) all (a_line {made = made} {more = more} m r) =
     ap (λ j. put_first j (all_made judge ls)) (a.judged l made m) ∙ ap (put_first {K = K} (makes made)) (is_made a ls more r)
 
-put_none : {A K : Type 0} (j : Judged A K) → put_first j None ≡ None
+pub put_none : {A K : Type 0} (j : Judged A K) → put_first j None ≡ None
 put_none (makes new) = refl
 put_none (is_wrong k) = refl
 
@@ -103,8 +103,8 @@ from_line : {A K : Type 0} (f : Format A K) (text : Bytes) (n : ℕ) (P : ℕ �
 from_line f text n P c here there m k o =
     let h : n ≤ m = c m k o in
     elim (cases_order m n) [
-      inl e ↦ subst (λ m. P m k) (sym e) (here k (subst (λ m. Offends f text m k) e o))
-    | inr d ↦ elim d [ inl g ↦ absurd (omega (arith, h, g)) | inr g ↦ there m k g ]
+      | inl e ↦ subst (λ m. P m k) (sym e) (here k (subst (λ m. Offends f text m k) e o))
+      | inr d ↦ elim d [ inl g ↦ absurd (omega (arith, h, g)) | inr g ↦ there m k g ]
     ]
 
 -- ---- going on

@@ -17,3 +17,4 @@ pub mod Scanned
 pub mod Made
 pub mod RecordLine
 pub mod SaidSeen
+pub mod Laws

@@ -10,6 +10,7 @@ ghost use Rattle.event_record.specs.FormSeen.{IsForm};
 
 use crate::line::{BYTE_LIMIT, Few, few_words, is_comment, split_line, split_word};
 use crate::number::number_in;
+use arch_checks::Checked;
 use std::alloc::{AllocError, Global};
 use tower_syntax::{Arch, Mark, Source};
 
@@ -228,8 +229,8 @@ fn marks_of(alloc: Global, arch: &Arch, bytes: &[u8]) -> Result<Vec<Mark>, Order
     Ok(marks)
 }
 
-/// The marks of an order, or its first fault.
-pub fn read_order(alloc: Global, arch: &Arch, bytes: &[u8]) -> Result<Vec<Mark>, OrderFault>
+/// The marks of a text, or its first fault.
+fn marks_for(alloc: Global, arch: &Arch, bytes: &[u8]) -> Result<Vec<Mark>, OrderFault>
     ensures ok { IfOk result (λ marks. SpellsOrder arch.now bytes.now marks.items) }
     ensures sources { IfOk result (λ marks. All (NamesSource arch.now) marks.items) }
     ensures fault { IfErr result (IsOrderFault arch.now bytes.now) }
@@ -241,4 +242,13 @@ pub fn read_order(alloc: Global, arch: &Arch, bytes: &[u8]) -> Result<Vec<Mark>,
         });
     }
     marks_of(alloc, arch, bytes)
+}
+
+/// The marks of an order, or its first fault.
+pub fn read_order(alloc: Global, arch: &Checked, bytes: &[u8]) -> Result<Vec<Mark>, OrderFault>
+    ensures ok { IfOk result (λ marks. SpellsOrder arch.now bytes.now marks.items) }
+    ensures sources { IfOk result (λ marks. All (NamesSource arch.now) marks.items) }
+    ensures fault { IfErr result (IsOrderFault arch.now bytes.now) }
+{
+    marks_for(alloc, arch.arch(), bytes)
 }

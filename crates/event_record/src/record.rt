@@ -2,6 +2,7 @@
 ghost use Rattle.std.specs.Prelude.{◌≡◌, ◌≤◌, ◌<◌, ◌^◌, [], ◌∷◌, length, map, replicate, IfOk, IfErr, OnOk, MatchOption, Ok};
 ghost use Rattle.tower_syntax.specs.Arch.{tick};
 ghost use Rattle.tower_syntax.specs.View.{source_of, entry_of, events_of};
+ghost use Rattle.tower_meaning.specs.Atomic.{Fit};
 ghost use Rattle.event_record.specs.Lines.{lines, words, behind_word};
 ghost use Rattle.event_record.specs.FewWords.{listed};
 ghost use Rattle.event_record.specs.Judged.{with_line, added_or, walk, makes};
@@ -12,6 +13,7 @@ ghost use Rattle.event_record.specs.SaidSeen.{said_seen};
 use crate::line::{BYTE_LIMIT, Few, few_words, is_comment, split_line, split_word};
 use crate::number::number_in;
 use crate::value::{is_value, value_of};
+use arch_checks::Checked;
 use sqlite_items::Items;
 use std::alloc::{AllocError, Global};
 use tower_syntax::{Arch, Entry, Events, Source, SourceKind};
@@ -250,8 +252,8 @@ fn depths_of(alloc: Global, sources: &[Source]) -> Result<Items<Option<u32>>, No
     Ok(depths)
 }
 
-/// The events of a record for the system, or its first fault.
-pub fn read_record(alloc: Global, arch: &Arch, bytes: &[u8]) -> Result<Events, RecordFault>
+/// The events of a record, or its first fault.
+fn events_for(alloc: Global, arch: &Arch, bytes: &[u8]) -> Result<Events, RecordFault>
     ensures ok { IfOk result (λ events. SpellsRecord arch.now bytes.now (events_of events)) }
     ensures fault { IfErr result (IsRecordFault arch.now bytes.now) }
 {
@@ -272,4 +274,13 @@ pub fn read_record(alloc: Global, arch: &Arch, bytes: &[u8]) -> Result<Events, R
         depths,
         entries,
     })
+}
+
+/// The events of a record for the system, or its first fault.
+pub fn read_record(alloc: Global, arch: &Checked, bytes: &[u8]) -> Result<Events, RecordFault>
+    ensures ok { IfOk result (λ events. SpellsRecord arch.now bytes.now (events_of events)) }
+    ensures fit { IfOk result (λ events. Fit arch.now (events_of events)) }
+    ensures fault { IfErr result (IsRecordFault arch.now bytes.now) }
+{
+    events_for(alloc, arch.arch(), bytes)
 }

@@ -185,7 +185,10 @@ fn take_array<'a>(
         match take_value(alloc, rest, records, t)? {
             None => return Ok(None),
             Some(taken) => {
-                let Taken { value, rest: behind } = taken;
+                let Taken {
+                    value,
+                    rest: behind,
+                } = taken;
                 parts.push(value)?;
                 rest = behind;
             }
@@ -211,7 +214,10 @@ fn take_record<'a>(
         match take_value(alloc, rest, records, t)? {
             None => return Ok(None),
             Some(taken) => {
-                let Taken { value, rest: behind } = taken;
+                let Taken {
+                    value,
+                    rest: behind,
+                } = taken;
                 parts.push(value)?;
                 rest = behind;
             }

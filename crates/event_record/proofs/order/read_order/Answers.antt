@@ -1,19 +1,13 @@
-use Rattle.std.proofs.Common.{◌≡◌, ◌≤◌, length, arith}
-use Rattle.std.proofs.lemmas.Result.{IfOk-weaker, IfErr-weaker}
-use Rattle.event_record.specs.Format.{byte_limit}
-use Rattle.event_record.specs.Order.{order_format}
-use Rattle.event_record.proofs.Exact.{long_first}
-use Rattle.event_record.proofs.OrderRead.{order_spelled, order_told, order_names}
+use Rattle.std.proofs.Common.{subst}
+use Rattle.std.specs.Prelude.{IfOk, IfErr, All}
+use Rattle.event_record.specs.Order.{SpellsOrder, IsOrderFault, NamesSource}
 use Rattle.event_record.proofs.order.read_order.Goals as goal
 
-pub returns-then-bytes-gt-BYTE_LIMIT-clause-fault : goal.returns-then-bytes-gt-BYTE_LIMIT-clause-fault
-returns-then-bytes-gt-BYTE_LIMIT-clause-fault c = long_first (order_format c.args.arch.now) c.args.bytes.now c.if-bytes-gt-BYTE_LIMIT.true
-
 pub returns-clause-ok : goal.returns-clause-ok
-returns-clause-ok c = IfOk-weaker c.marks_of.result _ _ (λ all w. order_spelled c.args.arch.now c.args.bytes.now all.items (omega arith) w) c.marks_of.ensures.ok
+returns-clause-ok c = subst (λ a. IfOk c.marks_for.result (λ m. SpellsOrder a c.args.bytes.now m.items)) c.arch.ensures.value c.marks_for.ensures.ok
 
 pub returns-clause-sources : goal.returns-clause-sources
-returns-clause-sources c = IfOk-weaker c.marks_of.result _ _ (λ all w. order_names c.args.arch.now c.args.bytes.now all.items (order_spelled c.args.arch.now c.args.bytes.now all.items (omega arith) w)) c.marks_of.ensures.ok
+returns-clause-sources c = subst (λ a. IfOk c.marks_for.result (λ m. All (NamesSource a) m.items)) c.arch.ensures.value c.marks_for.ensures.sources
 
 pub returns-clause-fault : goal.returns-clause-fault
-returns-clause-fault c = IfErr-weaker c.marks_of.result _ _ (λ f w. order_told c.args.arch.now c.args.bytes.now f (omega arith) w) c.marks_of.ensures.fault
+returns-clause-fault c = subst (λ a. IfErr c.marks_for.result (IsOrderFault a c.args.bytes.now)) c.arch.ensures.value c.marks_for.ensures.fault

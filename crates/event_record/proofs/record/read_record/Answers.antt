@@ -1,19 +1,17 @@
-use Rattle.std.proofs.Common.{◌≡◌, ◌≤◌, length, map, ap, ◌∙◌, arith}
-use Rattle.tower_syntax.specs.View.{entry_of}
-use Rattle.event_record.specs.Record.{record_format}
-use Rattle.event_record.proofs.Exact.{long_first}
-use Rattle.event_record.proofs.RecordRead.{record_spelled, record_told}
+use Rattle.std.proofs.Common.{subst}
+use Rattle.std.specs.Prelude.{IfOk, IfErr}
+use Rattle.std.proofs.lemmas.Result.{IfOk-weaker}
+use Rattle.tower_syntax.specs.View.{events_of}
+use Rattle.tower_meaning.specs.Atomic.{Fit}
+use Rattle.event_record.specs.Record.{SpellsRecord, IsRecordFault}
+use Rattle.event_record.proofs.RecordFit.{record_fits}
 use Rattle.event_record.proofs.record.read_record.Goals as goal
 
-pub returns-then-bytes-gt-BYTE_LIMIT-clause-fault : goal.returns-then-bytes-gt-BYTE_LIMIT-clause-fault
-returns-then-bytes-gt-BYTE_LIMIT-clause-fault c = long_first (record_format c.args.arch.now) c.args.bytes.now c.if-bytes-gt-BYTE_LIMIT.true
-
-pub returns-in-Err-clause-fault : goal.returns-in-Err-clause-fault
-returns-in-Err-clause-fault c = record_told c.args.arch.now c.args.bytes.now c.in-Err.fault (omega arith) c.in-Err.ensures.fault
-
 pub returns-clause-ok : goal.returns-clause-ok
-returns-clause-ok c = record {
-  kinds = c.in_ok-kinds.ensures ∙ ap (map (λ s. s.kind)) c.sources.ensures.value;
-  depths = c.in_ok-depths.ensures ∙ ap (map (λ s. s.depth)) c.sources-2.ensures.value;
-  entries = record_spelled c.args.arch.now c.args.bytes.now _ (omega arith) c.in-Ok.ensures.ok;
-}
+returns-clause-ok c = subst (λ a. IfOk c.events_for.result (λ e. SpellsRecord a c.args.bytes.now (events_of e))) c.arch.ensures.value c.events_for.ensures.ok
+
+pub returns-clause-fit : goal.returns-clause-fit
+returns-clause-fit c = subst (λ a. IfOk c.events_for.result (λ e. Fit a (events_of e))) c.arch.ensures.value (IfOk-weaker c.events_for.result _ _ (λ e s. record_fits c.arch.result.now c.args.bytes.now (events_of e) s) c.events_for.ensures.ok)
+
+pub returns-clause-fault : goal.returns-clause-fault
+returns-clause-fault c = subst (λ a. IfErr c.events_for.result (IsRecordFault a c.args.bytes.now)) c.arch.ensures.value c.events_for.ensures.fault

@@ -18,8 +18,8 @@ take_array-returns-in-None t c =
     let i : ℕ = c.loop-i._i in
     let ts = tokens c.loop-i.rest.now in
     part_none (take_each (n - (i + 1)) f) (f ts) (take_each n f (tokens c.args.text.now)) c.loop-i.parts
-        (subst (IsTaken (f ts)) c.in-None.is c.in_ok-take_value.ensures)
-        (ap (prefixed (map value_of c.loop-i.parts)) (sym (each_left n i f ts c.loop-i-test.true)) ∙ c.loop-i.invariant)
+    (subst (IsTaken (f ts)) c.in-None.is c.in_ok-take_value.ensures)
+    (ap (prefixed (map value_of c.loop-i.parts)) (sym (each_left n i f ts c.loop-i-test.true)) ∙ c.loop-i.invariant)
 
 pub take_array-loop-i-preserved : goal.take_array-loop-i-preserved
 take_array-loop-i-preserved t c =
@@ -28,8 +28,8 @@ take_array-loop-i-preserved t c =
     let i : ℕ = c.loop-i._i in
     let ts = tokens c.loop-i.rest.now in
     part_more (take_each (n - (i + 1)) f) (f ts) (take_each n f (tokens c.args.text.now)) c.loop-i.parts _ c.in-Some.taken.value (tokens c.in-Some.taken.rest.now) c.in_ok-push-in-Some.ensures.ok
-        (subst (IsTaken (f ts)) c.in-Some.is c.in_ok-take_value.ensures)
-        (ap (prefixed (map value_of c.loop-i.parts)) (sym (each_left n i f ts c.loop-i-test.true)) ∙ c.loop-i.invariant)
+    (subst (IsTaken (f ts)) c.in-Some.is c.in_ok-take_value.ensures)
+    (ap (prefixed (map value_of c.loop-i.parts)) (sym (each_left n i f ts c.loop-i-test.true)) ∙ c.loop-i.invariant)
 
 pub take_array-returns : goal.take_array-returns
 take_array-returns t c =
@@ -38,7 +38,7 @@ take_array-returns t c =
     let i : ℕ = c.loop-i._i in
     let ts = tokens c.loop-i.rest.now in
     parts_end (take_each n f (tokens c.args.text.now)) c.loop-i.parts ts c.closed.result
-        (ap (prefixed (map value_of c.loop-i.parts)) (sym (each_done n i f ts c.loop-i-test.false)) ∙ c.loop-i.invariant) c.closed.ensures
+    (ap (prefixed (map value_of c.loop-i.parts)) (sym (each_done n i f ts c.loop-i-test.false)) ∙ c.loop-i.invariant) c.closed.ensures
 
 pub take_record-take_value-requires : goal.take_record-take_value-requires
 take_record-take_value-requires t c =
@@ -52,8 +52,8 @@ take_record-returns-in-None t c =
     let i : ℕ = c.loop-t.t-index in
     let ts = tokens c.loop-t.rest.now in
     part_none (take_values (shapes_at table (drop (i + 1) fields))) _ (take_values (shapes_at table fields) (tokens c.args.text.now)) c.loop-t.parts
-        (subst (IsTaken _) c.in-None.is c.in_ok-take_value.ensures)
-        (ap (prefixed (map value_of c.loop-t.parts)) (sym (fields_left table fields i c.loop-t-item.result ts c.loop-t-test.true c.loop-t-item.is)) ∙ c.loop-t.invariant)
+    (subst (IsTaken _) c.in-None.is c.in_ok-take_value.ensures)
+    (ap (prefixed (map value_of c.loop-t.parts)) (sym (fields_left table fields i c.loop-t-item.result ts c.loop-t-test.true c.loop-t-item.is)) ∙ c.loop-t.invariant)
 
 pub take_record-loop-t-preserved : goal.take_record-loop-t-preserved
 take_record-loop-t-preserved t c =
@@ -62,8 +62,8 @@ take_record-loop-t-preserved t c =
     let i : ℕ = c.loop-t.t-index in
     let ts = tokens c.loop-t.rest.now in
     part_more (take_values (shapes_at table (drop (i + 1) fields))) _ (take_values (shapes_at table fields) (tokens c.args.text.now)) c.loop-t.parts _ c.in-Some.taken.value (tokens c.in-Some.taken.rest.now) c.in_ok-push-in-Some.ensures.ok
-        (subst (IsTaken _) c.in-Some.is c.in_ok-take_value.ensures)
-        (ap (prefixed (map value_of c.loop-t.parts)) (sym (fields_left table fields i c.loop-t-item.result ts c.loop-t-test.true c.loop-t-item.is)) ∙ c.loop-t.invariant)
+    (subst (IsTaken _) c.in-Some.is c.in_ok-take_value.ensures)
+    (ap (prefixed (map value_of c.loop-t.parts)) (sym (fields_left table fields i c.loop-t-item.result ts c.loop-t-test.true c.loop-t-item.is)) ∙ c.loop-t.invariant)
 
 pub take_record-returns : goal.take_record-returns
 take_record-returns t c =
@@ -71,7 +71,7 @@ take_record-returns t c =
     let fields = c.args.fields.now in
     let ts = tokens c.loop-t.rest.now in
     parts_end (take_values (shapes_at table fields) (tokens c.args.text.now)) c.loop-t.parts ts c.closed.result
-        (ap (prefixed (map value_of c.loop-t.parts)) (sym (fields_done table fields c.loop-t.t-index ts c.loop-t-test.false)) ∙ c.loop-t.invariant) c.closed.ensures
+    (ap (prefixed (map value_of c.loop-t.parts)) (sym (fields_done table fields c.loop-t.t-index ts c.loop-t-test.false)) ∙ c.loop-t.invariant) c.closed.ensures
 
 pub take_value-take_record-requires : goal.take_value-take_record-requires
 take_value-take_record-requires t c =
