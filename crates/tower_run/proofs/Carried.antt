@@ -1,7 +1,8 @@
 -- The turns of a run: what each carries out.
 use Rattle.std.proofs.Common.{◌≡◌, ◌<◌, ◌≤◌, ◌+◌, ◌-◌, ℕ, zero, suc, List, [], ◌∷◌, ◌++◌, map, length, Option, Some, None, Bool, true, false, ◌&&◌, ◌||◌, not, refl, sym, ap, ◌∙◌, subst, arith, slice_get, is_some, cond}
 use Rattle.std.specs.List.{list_any}
-use Rattle.std.proofs.lemmas.Option.{same_Some, none-some}
+use Rattle.std.proofs.lemmas.Option.{same_Some, none-some, slice_get_within}
+use Rattle.std.proofs.lemmas.List.{length-map}
 use Rattle.tower_syntax.specs.declared.event.Choice.{Choice}
 use Rattle.tower_syntax.specs.declared.event.Choice.TheVariants as choice
 use Rattle.tower_syntax.specs.declared.event.Mark.{Mark}
@@ -16,7 +17,7 @@ use Rattle.task_code.specs.Policy.{fixed_names, priorities}
 use Rattle.task_code.specs.Plan as plan
 use Rattle.task_code.specs.Plan.{Planning, picked, is_seen, repeated}
 use Rattle.task_machine.specs.Lawful.{fixed_is_lawful}
-use Rattle.task_machine.specs.State.{State, Turned, turn_of, ready, holds, does_next, standing_in, next_entry, arrived}
+use Rattle.task_machine.specs.State.{State, Turned, turn_of, ready, holds, does_next, standing_in, next_entry, arrived, turned}
 use Rattle.tower_run.specs.declared.going.Job.{Job}
 use Rattle.tower_run.specs.declared.going.Going.{Going}
 use Rattle.tower_run.specs.declared.going.Turn.{Turn}
@@ -24,11 +25,19 @@ use Rattle.tower_run.specs.declared.going.Turn.TheVariants as turn
 use Rattle.tower_run.specs.Paging.{HasPut, HasFailed}
 use Rattle.tower_run.specs.Pieces.{AreFitLines}
 use Rattle.tower_run.specs.Waiting.{is_named_waiting}
-use Rattle.tower_run.specs.Going.{Course, course_of, by, begun, shown, waited, Part, going_with, going, going_on, looking, seeing, entering, idling, unchosen, ending, once, repeating, applying, choosing, most_turns, NeverStops, MayStop, Tells, Told, Carries, IsJob, IsGoing, Shows, Stepped, HasStepped, IsReadyTurn, IsLeftTurn, due_of, task_where, task_left}
+use Rattle.tower_run.specs.Going.{Course, course_of, by, begun, shown, waited, Part, going_with, going, going_on, looking, seeing, entering, idling, unchosen, ending, once, repeating, applying, choosing, most_turns, NeverStops, MayStop, Tells, Told, Carries, IsJob, IsGoing, Shows, Stepped, HasStepped, IsReadyTurn, IsLeftTurn, IsOneTurn, turn_of_put, due_of, task_where, task_left}
 use Rattle.tower_run.proofs.Plans.{Grows, grows_not, see_rests, go_stays, see_stays, go_grows, see_grows, enter_grows, repeated_same, repeated_split, repeated_grows, choose_stays, choose_goes, choose_grows, finished_ends, first_true, second_true, both_false, go_with_grows, look_grows, look_ends, look_goes, look_after, see_after, idle_stays, idle_rests, idle_goes, idle_grows, unchosen_goes, unchosen_enters, to_end_stays, to_end_rests, to_end_goes, to_end_grows, stopped_ends}
-use Rattle.tower_run.proofs.Ready.{Stepping, named_if_any, none_named, any_at, any_ready, stands_at, ready_at, is_ready_only, unfinished_ready, unfinished_entry}
+use Rattle.tower_run.proofs.Ready.{Stepping, after_place, received_place, named_if_any, none_named, any_at, any_ready, stands_at, ready_at, is_ready_only, unfinished_ready, unfinished_entry}
 use Rattle.tower_run.proofs.Steps.{failed_grows, told_step, left_some, left_none, stands_here, does_here, then_planned, part_is, makes, entered_planned, enters_none, enters, makes_entry}
-use Rattle.tower_run.proofs.Waited.{one_if}
+use Rattle.tower_run.proofs.Waited.{one_if, counted_few, waits_few}
+use Rattle.tower_report.specs.RunText.{waits}
+use Rattle.tower_io.specs.declared.answers.Put.{Put}
+use Rattle.tower_io.specs.declared.answers.Put.TheVariants as put
+
+-- the plan from here on is that from the start on
+abbrev pub SoFar : {S : Type 0} → (S → Option (List ℕ)) → (S → ℕ) → Part → Part → Job → Going → S → Going → S → Type 0
+SoFar {S} w f part other j r0 o0 r o =
+    (c : Course) (s : Planning) (first : S) → Tells w f c s false first j r0 o0 → (t : Planning) × Tells w f c t false first j r o × (part c t ≡ other c s)
 
 not_both : (b : Bool) → b ≡ true → b ≡ false → ⊥
 not_both b e f = cc
@@ -196,8 +205,7 @@ module _ {S : Type 0} (w : S → Option (List ℕ)) (f : S → ℕ) where
   -- ---- a turn after others
 
   -- the plan from here on is that from the start on
-  pub composed : (part other : Part) (j : Job) (r0 r r' : Going) (o0 o o' : S) (result : Turn) → ((c : Course) (s : Planning) (first : S) → Tells w f c s false first j r0 o0 → (t : Planning) × Tells w f c t false first j r o × (part c t ≡ other c s))
-      → (result ≡ turn.Passed → ⊥) → Carries w f part j r o r' o' result → Carries w f other j r0 o0 r' o' result
+  pub composed : (part other : Part) (j : Job) (r0 r r' : Going) (o0 o o' : S) (result : Turn) → SoFar w f part other j r0 o0 r o → (result ≡ turn.Passed → ⊥) → Carries w f part j r o r' o' result → Carries w f other j r0 o0 r' o' result
   composed part other j r0 r r' o0 o o' result so_far not_passed h = record {
     on = λ c s first told.
         let now = so_far c s first told in
@@ -484,3 +492,102 @@ module _ {S : Type 0} (w : S → Option (List ℕ)) (f : S → ℕ) where
           (ends_so (applying ch) moved j r r' o o' result not_went not_passed
           (λ c s stopped none. choose_stays (by c) c.program c.events c.limit cs (applying ch c s) (stopped_ends (by c) c.program c.events c.limit (applying ch c s) stopped))
           (λ c s first told. choose_grows (by c) c.program c.events c.limit cs (applying ch c s)) h)
+
+  -- ---- loops
+
+  pub so_far_none : (part : Part) (j : Job) (r : Going) (o : S) → SoFar w f part part j r o r o
+  so_far_none part j r o = λ c s first told. (s, told, refl)
+
+  -- one turn more, behind which the plan from here on is the same
+  pub so_far_more : (part other step : Part) (j : Job) (r0 r r' : Going) (o0 o o' : S) → SoFar w f part other j r0 o0 r o → Carries w f step j r o r' o' turn.Went
+      → ((c : Course) (s : Planning) (first : S) → Tells w f c s false first j r o → part c (step c s) ≡ part c s) → SoFar w f part other j r0 o0 r' o'
+  so_far_more part other step j r0 r r' o0 o o' so_far h same = λ c s first told.
+      let now = so_far c s first told in
+      (step c now.0, h.on c now.0 first now.1, same c now.0 first now.1 ∙ now.2)
+
+  pub so_far_going : (part other : Part) (j : Job) (r0 r : Going) (o0 o : S) → IsGoing w f j r0 o0 → SoFar w f part other j r0 o0 r o → IsGoing w f j r o
+  so_far_going part other j r0 r o0 o g so_far = still_going j r0 r o0 o g (λ c s first told. let now = so_far c s first told in (now.0, now.1))
+
+  -- ---- what is known of an instruction
+
+  module _ (named : Option ℕ) (m : Option Mark) (n : State) (j : Job) (r r2 r' : Going) (o o' : S) (st : Stepping r.machine named m n) (is_n : r2.machine ≡ n) (is_count : r2.count ≡ r.count + 1) where
+    then_machine : r' ≡ record r2 { page = r'.page } → r'.machine ≡ turned r.machine st.task (does_next r.machine st.task)
+    then_machine same = ap (λ (g : Going). g.machine) same ∙ is_n ∙ st.after
+
+    stepped_by : (answer : Put) → r' ≡ record r2 { page = r'.page } → HasStepped named r r' (turn_of_put answer)
+    stepped_by put.Done same =
+        (st.task, st.is, record { stands = st.stands; last = ap (λ (u : State). u.last) (then_machine same); count = ap (λ (g : Going). g.count) same ∙ is_count })
+    stepped_by put.Failed same = tt
+
+    pub has_stepped : (result : Turn) → Shows w f j.arch.now m r2 o r' o' result → HasStepped named r r' result
+    has_stepped result h = subst (HasStepped named r r') (sym h.is) (stepped_by h.answer h.same)
+
+    ready_by : (answer : Put) → IsReadyTurn (ready r.machine) (turn_of_put answer)
+    ready_by put.Done = any_ready r.machine st.task st.stands
+    ready_by put.Failed = any_ready r.machine st.task st.stands
+
+    pub ready_turn : (result : Turn) → Shows w f j.arch.now m r2 o r' o' result → IsReadyTurn (ready r.machine) result
+    ready_turn result h = subst (IsReadyTurn (ready r.machine)) (sym h.is) (ready_by h.answer)
+
+    one_by : (limit : ℕ) → r.count < limit → (answer : Put) → r' ≡ record r2 { page = r'.page } → IsOneTurn limit r r' (turn_of_put answer)
+    one_by limit less put.Done same =
+        let count : r'.count ≡ r.count + 1 = ap (λ (g : Going). g.count) same ∙ is_count in
+        let place : r'.machine.machine.place ≡ r.machine.machine.place = ap (λ (u : State). u.machine.place) (then_machine same) ∙ after_place r.machine.machine st.task (does_next r.machine st.task) in
+        let entries : length (events_of r'.machine.events).entries ≡ length (events_of r.machine.events).entries = ap (λ (u : State). length (events_of u.events).entries) (then_machine same) in
+        omega (arith, count, place, entries, less)
+    one_by limit less put.Failed same = tt
+
+    pub one_turn : (limit : ℕ) → r.count < limit → (result : Turn) → Shows w f j.arch.now m r2 o r' o' result → IsOneTurn limit r r' result
+    one_turn limit less result h = subst (IsOneTurn limit r r') (sym h.is) (one_by limit less h.answer h.same)
+
+  pub due_stepped : (o : Option ℕ) (r r' : Going) (b : Bool) → HasStepped o r r' (due_of b)
+  due_stepped o r r' true = tt
+  due_stepped o r r' false = tt
+
+  pub due_ready : (bs : List Bool) (b : Bool) → b ≡ list_any (λ b. b) bs → IsReadyTurn bs (due_of b)
+  due_ready bs true e = sym e
+  due_ready bs false e = sym e
+
+  pub due_one : (limit : ℕ) (r r' : Going) (b : Bool) → IsOneTurn limit r r' (due_of b)
+  due_one limit r r' true = tt
+  due_one limit r r' false = tt
+
+  -- no more waits than instructions
+  pub few_waits : (j : Job) (r : Going) (o : S) → IsGoing w f j r o → r.waits ≤ r.count
+  few_waits j r o g =
+      let t = g.told in
+      let few = counted_few g.course.counting (waits (by g.course) g.course.program g.course.events (begun g.course) g.planned.steps) (plan.instructions g.planned.steps) (waits_few (by g.course) g.course.program g.course.events (begun g.course) g.planned.steps) in
+      omega (arith, few, t.waits, t.count)
+
+  pub rule_length : (j : Job) (r : Going) (o : S) → IsGoing w f j r o → length j.rule ≡ length r.machine.program.tasks
+  rule_length j r o g = ap length (job_rule j r o g) ∙ length-map r.machine.program.tasks (λ t. t.priority)
+
+  -- ---- what is known of an entry
+
+  module _ (e : Entry) (n : State) (j : Job) (r r2 r' : Going) (o o' : S) (here : next_entry r.machine ≡ Some e) (is : n ≡ arrived r.machine e) (same2 : r2 ≡ record r { machine = n }) where
+    entry_never : (answer : Put) → NeverStops (turn_of_put answer)
+    entry_never put.Done = tt
+    entry_never put.Failed = tt
+
+    pub entry_stops : (result : Turn) → Shows w f j.arch.now (Some mark.Arrive) r2 o r' o' result → NeverStops result
+    entry_stops result h = subst NeverStops (sym h.is) (entry_never h.answer)
+
+    left_put : (answer : Put) → IsLeftTurn r.machine (turn_of_put answer)
+    left_put put.Done = unfinished_entry r.machine e here
+    left_put put.Failed = unfinished_entry r.machine e here
+
+    pub entry_left : (result : Turn) → Shows w f j.arch.now (Some mark.Arrive) r2 o r' o' result → IsLeftTurn r.machine result
+    entry_left result h = subst (IsLeftTurn r.machine) (sym h.is) (left_put h.answer)
+
+    entry_by : (limit : ℕ) (answer : Put) → r' ≡ record r2 { page = r'.page } → IsOneTurn limit r r' (turn_of_put answer)
+    entry_by limit put.Done same =
+        let machine : r'.machine ≡ arrived r.machine e = ap (λ (g : Going). g.machine) same ∙ ap (λ (g : Going). g.machine) same2 ∙ is in
+        let count : r'.count ≡ r.count = ap (λ (g : Going). g.count) same ∙ ap (λ (g : Going). g.count) same2 in
+        let place : r'.machine.machine.place ≡ suc r.machine.machine.place = ap (λ (u : State). u.machine.place) machine ∙ received_place (events_of r.machine.events) r.machine.machine e in
+        let entries : length (events_of r'.machine.events).entries ≡ length (events_of r.machine.events).entries = ap (λ (u : State). length (events_of u.events).entries) machine in
+        let within : r.machine.machine.place < length (events_of r.machine.events).entries = slice_get_within (events_of r.machine.events).entries r.machine.machine.place e here in
+        omega (arith, count, place, entries, within)
+    entry_by limit put.Failed same = tt
+
+    pub entry_one : (limit : ℕ) (result : Turn) → Shows w f j.arch.now (Some mark.Arrive) r2 o r' o' result → IsOneTurn limit r r' result
+    entry_one limit result h = subst (IsOneTurn limit r r') (sym h.is) (entry_by limit h.answer h.same)
