@@ -25,7 +25,7 @@ use Rattle.tower_run.specs.declared.going.Turn.TheVariants as turn
 use Rattle.tower_run.specs.Paging.{HasPut, HasFailed}
 use Rattle.tower_run.specs.Pieces.{AreFitLines}
 use Rattle.tower_run.specs.Waiting.{is_named_waiting}
-use Rattle.tower_run.specs.Going.{Course, course_of, by, begun, shown, waited, Part, going_with, going, going_on, looking, seeing, entering, idling, unchosen, ending, once, repeating, applying, choosing, most_turns, NeverStops, MayStop, Tells, Told, Carries, IsJob, IsGoing, Shows, Stepped, HasStepped, IsReadyTurn, IsLeftTurn, IsOneTurn, turn_of_put, due_of, task_where, task_left}
+use Rattle.tower_run.specs.Going.{Course, course_of, by, begun, shown, waited, Part, going_with, going, going_on, looking, seeing, entering, idling, unchosen, ending, once, repeating, applying, choosing, most_turns, NeverStops, NeverPasses, MayStop, Tells, Told, Carries, IsJob, IsGoing, Shows, Stepped, HasStepped, IsReadyTurn, IsLeftTurn, IsOneTurn, turn_of_put, due_of, task_where, task_left}
 use Rattle.tower_run.proofs.Plans.{Grows, grows_not, see_rests, go_stays, see_stays, go_grows, see_grows, enter_grows, repeated_same, repeated_split, repeated_grows, choose_stays, choose_goes, choose_grows, finished_ends, first_true, second_true, both_false, go_with_grows, look_grows, look_ends, look_goes, look_after, see_after, idle_stays, idle_rests, idle_goes, idle_grows, unchosen_goes, unchosen_enters, to_end_stays, to_end_rests, to_end_goes, to_end_grows, stopped_ends}
 use Rattle.tower_run.proofs.Ready.{Stepping, after_place, received_place, named_if_any, none_named, any_at, any_ready, stands_at, ready_at, is_ready_only, unfinished_ready, unfinished_entry}
 use Rattle.tower_run.proofs.Steps.{failed_grows, told_step, left_some, left_none, stands_here, does_here, then_planned, part_is, makes, entered_planned, enters_none, enters, makes_entry}
@@ -41,6 +41,34 @@ SoFar {S} w f part other j r0 o0 r o =
 
 not_both : (b : Bool) → b ≡ true → b ≡ false → ⊥
 not_both b e f = cc
+
+pub stopped_not_went : turn.Stopped ≡ turn.Went → ⊥
+stopped_not_went e = cc
+
+pub stopped_not_passed : turn.Stopped ≡ turn.Passed → ⊥
+stopped_not_passed e = cc
+
+pub failed_not_went : turn.Failed ≡ turn.Went → ⊥
+failed_not_went e = cc
+
+pub failed_not_passed : turn.Failed ≡ turn.Passed → ⊥
+failed_not_passed e = cc
+
+pub went_not_passed : turn.Went ≡ turn.Passed → ⊥
+went_not_passed e = cc
+
+-- where a task is ready, the turn is not passed over
+pub passed_not_ready : (bs : List Bool) (x : ℕ) → slice_get bs x ≡ Some true → list_any (λ b. b) bs ≡ false → ⊥
+passed_not_ready bs x e h = not_both (list_any (λ b. b) bs) (any_at bs x e) h
+
+pub never_passed : (t : Turn) → NeverPasses t → t ≡ turn.Passed → ⊥
+never_passed t h e = subst NeverPasses e h
+
+-- the instruction that task x executed
+pub stepped_here : (x : ℕ) (r r' : Going) → HasStepped (Some x) r r' turn.Went → Stepped x r r'
+stepped_here x r r' h =
+    let is : h.0 ≡ x = same_Some h.0 x (sym h.1) in
+    subst (λ y. Stepped y r r') is h.2
 
 module _ {S : Type 0} (w : S → Option (List ℕ)) (f : S → ℕ) where
   -- ---- the same run
@@ -591,3 +619,33 @@ module _ {S : Type 0} (w : S → Option (List ℕ)) (f : S → ℕ) where
 
     pub entry_one : (limit : ℕ) (result : Turn) → Shows w f j.arch.now (Some mark.Arrive) r2 o r' o' result → IsOneTurn limit r r' result
     entry_one limit result h = subst (IsOneTurn limit r r') (sym h.is) (entry_by limit h.answer h.same)
+
+  -- ---- the repeats of a choice, as a loop
+
+  pub repeat_none : (ch : Choice) (n : ℕ) (j : Job) (r : Going) (o : S) → SoFar w f (repeating (n - 0) ch) (repeating n ch) j r o r o
+  repeat_none ch n j r o = λ c s first told. let is : n - 0 ≡ n = omega arith in (s, told, ap (λ i. repeated i (once ch c) s) is)
+
+  pub repeat_more : (ch : Choice) (m n : ℕ) (j : Job) (r0 r r' : Going) (o0 o o' : S) → m < n → SoFar w f (repeating (n - m) ch) (repeating n ch) j r0 o0 r o → Carries w f (once ch) j r o r' o' turn.Went → SoFar w f (repeating (n - (m + 1)) ch) (repeating n ch) j r0 o0 r' o'
+  repeat_more ch m n j r0 r r' o0 o o' less so_far h = λ c s first told.
+      let now = so_far c s first told in
+      let is : n - m ≡ suc (n - (m + 1)) = omega (arith, less) in
+      (once ch c now.0, h.on c now.0 first now.1, sym (ap (λ i. repeated i (once ch c) now.0) is) ∙ now.2)
+
+  pub repeat_over : (ch : Choice) (m n : ℕ) (j : Job) (r0 r : Going) (o0 o : S) → n ≤ m → SoFar w f (repeating (n - m) ch) (repeating n ch) j r0 o0 r o → Carries w f (repeating n ch) j r0 o0 r o turn.Went
+  repeat_over ch m n j r0 r o0 o over so_far = record {
+    on = λ c s first told.
+        let now = so_far c s first told in
+        let is : n - m ≡ 0 = omega (arith, over) in
+        tells_plan c now.0 (repeating n ch c s) false first j r o (sym (ap (λ i. repeated i (once ch c) now.0) is) ∙ now.2) now.1;
+  }
+
+  -- ---- the choices, as a loop
+
+  pub choose_more : (cs rest : List Choice) (ch : Choice) (left : List Choice) (j : Job) (r0 r r' : Going) (o0 o o' : S) → left ≡ ch ∷ rest → is_finished r.machine.program (events_of r.machine.events) r.machine.machine ≡ false
+      → SoFar w f (choosing left) (choosing cs) j r0 o0 r o → ((c : Course) (s : Planning) (first : S) → Tells w f c s false first j r o → Tells w f c (applying ch c s) false first j r' o') → SoFar w f (choosing rest) (choosing cs) j r0 o0 r' o'
+  choose_more cs rest ch left j r0 r r' o0 o o' is unfinished so_far h = λ c s first told.
+      let now = so_far c s first told in
+      (applying ch c now.0, h c now.0 first now.1, choosing_is ch rest j r r' o o' unfinished c now.0 first now.1 ∙ sym (ap (λ l. choosing l c now.0) is) ∙ now.2)
+
+  pub choose_left : (cs other left : List Choice) (j : Job) (r0 r : Going) (o0 o : S) → left ≡ other → SoFar w f (choosing left) (choosing cs) j r0 o0 r o → SoFar w f (choosing other) (choosing cs) j r0 o0 r o
+  choose_left cs other left j r0 r o0 o is so_far = subst (λ l. SoFar w f (choosing l) (choosing cs) j r0 o0 r o) is so_far

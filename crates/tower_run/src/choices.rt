@@ -29,7 +29,8 @@ fn repeat<O: Sink>(job: &Job, run: &mut Going, choice: Choice, times: u32, out: 
         match once(job, run, choice, out) {
             Turn::Went => {}
             Turn::Passed => return Turn::Went,
-            other => return other,
+            Turn::Stopped => return Turn::Stopped,
+            Turn::Failed => return Turn::Failed,
         }
     }
     Turn::Went
@@ -59,8 +60,10 @@ pub fn choose<O: Sink>(job: &Job, run: &mut Going, choices: &[Choice], out: &mut
             return Turn::Went;
         }
         match apply(job, run, *choice, out) {
-            Turn::Went | Turn::Passed => {}
-            other => return other,
+            Turn::Went => {}
+            Turn::Passed => {}
+            Turn::Stopped => return Turn::Stopped,
+            Turn::Failed => return Turn::Failed,
         }
     }
     finish(job, run, out)

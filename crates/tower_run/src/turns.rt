@@ -124,10 +124,13 @@ fn look<O: Sink>(job: &Job, run: &mut Going, x: u32, k: u32, out: &mut O) -> Tur
     'steps: loop {
         match go_on(job, run, x, k, out) {
             Turn::Went => {}
-            other => return other,
+            Turn::Passed => return Turn::Passed,
+            Turn::Stopped => return Turn::Stopped,
+            Turn::Failed => return Turn::Failed,
         }
-        if task_to_go_on(&run.machine).is_none() {
-            return Turn::Went;
+        match task_to_go_on(&run.machine) {
+            Some(_) => {}
+            None => return Turn::Went,
         }
     }
 }
@@ -139,7 +142,9 @@ pub fn see<O: Sink>(job: &Job, run: &mut Going, k: u32, out: &mut O) -> Turn
 {
     match go(job, run, k, out) {
         Turn::Went => {}
-        other => return other,
+        Turn::Passed => return Turn::Passed,
+        Turn::Stopped => return Turn::Stopped,
+        Turn::Failed => return Turn::Failed,
     }
     match task_to_go_on(&run.machine) {
         Some(x) => look(job, run, x, k, out),
@@ -170,7 +175,8 @@ pub fn idle<O: Sink>(job: &Job, run: &mut Going, out: &mut O) -> Turn
         match go(job, run, 0, out) {
             Turn::Went => {}
             Turn::Passed => return Turn::Went,
-            other => return other,
+            Turn::Stopped => return Turn::Stopped,
+            Turn::Failed => return Turn::Failed,
         }
     }
 }
@@ -184,20 +190,24 @@ fn go_unchosen<O: Sink>(job: &Job, run: &mut Going, out: &mut O) -> Turn
 {
     match go(job, run, 0, out) {
         Turn::Passed => event(job, run, out),
-        other => other,
+        Turn::Went => Turn::Went,
+        Turn::Stopped => Turn::Stopped,
+        Turn::Failed => Turn::Failed,
     }
 }
 
 /// The rest of a run where no choice is left. After `Went` it is at its end.
 pub fn finish<O: Sink>(job: &Job, run: &mut Going, out: &mut O) -> Turn
     requires { IsGoing O.written O.faults job.now run.old out.old }
-    ensures { Carries O.written O.faults ending job.now run.old out.old run.new out.new result }
+    ensures carries { Carries O.written O.faults ending job.now run.old out.old run.new out.new result }
+    ensures never_passes { NeverPasses result }
 {
     'steps: loop {
         match go_unchosen(job, run, out) {
             Turn::Went => {}
             Turn::Passed => return Turn::Went,
-            other => return other,
+            Turn::Stopped => return Turn::Stopped,
+            Turn::Failed => return Turn::Failed,
         }
     }
 }
