@@ -1,5 +1,5 @@
 -- The turns of a run: what each carries out.
-use Rattle.std.proofs.Common.{◌≡◌, ◌<◌, ◌≤◌, ◌+◌, ◌-◌, ℕ, zero, suc, List, [], ◌∷◌, ◌++◌, map, length, Option, Some, None, Bool, true, false, ◌&&◌, ◌||◌, not, refl, sym, ap, ◌∙◌, subst, arith, slice_get, is_some, cond}
+use Rattle.std.proofs.Common.{◌≡◌, ◌<◌, ◌≤◌, ◌+◌, ◌-◌, ℕ, zero, suc, List, [], ◌∷◌, ◌++◌, map, length, Option, Some, None, Bool, true, false, ◌&&◌, ◌||◌, not, refl, sym, ap, ◌∙◌, subst, arith, slice_get, is_some, cond, drop, slice_index_or}
 use Rattle.std.specs.List.{list_any}
 use Rattle.std.proofs.lemmas.Option.{same_Some, none-some, slice_get_within}
 use Rattle.std.proofs.lemmas.List.{length-map}
@@ -56,6 +56,22 @@ failed_not_passed e = cc
 
 pub went_not_passed : turn.Went ≡ turn.Passed → ⊥
 went_not_passed e = cc
+
+-- an element, and those behind it
+pub drop_is : (xs : List Choice) (i : ℕ) (d : Choice) → i < length xs → drop i xs ≡ slice_index_or xs i d ∷ drop (i + 1) xs
+drop_is [] i d h = absurd (omega arith)
+drop_is (x ∷ xs) zero d h = let e : 0 + 1 ≡ 1 = omega arith in ap (λ n. x ∷ drop n (x ∷ xs)) (sym e)
+drop_is (x ∷ xs) (suc i) d h =
+    let e : suc i + 1 ≡ suc (i + 1) = omega arith in
+    let less : i < length xs = omega arith in
+    drop_is xs i d less ∙ ap (λ n. slice_index_or xs i d ∷ drop n (x ∷ xs)) (sym e)
+
+-- none are left
+pub drop_none : (xs : List Choice) (i : ℕ) → length xs ≤ i → drop i xs ≡ []
+drop_none [] zero h = refl
+drop_none [] (suc i) h = refl
+drop_none (x ∷ xs) zero h = absurd (omega arith)
+drop_none (x ∷ xs) (suc i) h = drop_none xs i (omega arith)
 
 -- where a task is ready, the turn is not passed over
 pub passed_not_ready : (bs : List Bool) (x : ℕ) → slice_get bs x ≡ Some true → list_any (λ b. b) bs ≡ false → ⊥
@@ -649,3 +665,7 @@ module _ {S : Type 0} (w : S → Option (List ℕ)) (f : S → ℕ) where
 
   pub choose_left : (cs other left : List Choice) (j : Job) (r0 r : Going) (o0 o : S) → left ≡ other → SoFar w f (choosing left) (choosing cs) j r0 o0 r o → SoFar w f (choosing other) (choosing cs) j r0 o0 r o
   choose_left cs other left j r0 r o0 o is so_far = subst (λ l. SoFar w f (choosing l) (choosing cs) j r0 o0 r o) is so_far
+
+  -- a turn that was passed over, told as one that went
+  pub went_so : (part : Part) (j : Job) (r r' : Going) (o o' : S) → Carries w f part j r o r' o' turn.Passed → Carries w f part j r o r' o' turn.Went
+  went_so part j r r' o o' h = record { on = λ c s first told. (h.on c s first told).0 }

@@ -42,6 +42,10 @@ can_end j r c job is =
       sources = ap (λ (a : Arch). length a.sources) (sym arch_is) ∙ sym (tasks_count c.arch fine c.program job.sound.shaped) ∙ ap (λ (p : Program). length p.tasks) (sym program_is);
     }
 
+none_yet : (v : Bool) (n : ℕ) → cond v n n ≡ n
+none_yet true n = refl
+none_yet false n = refl
+
 waits_are : (counting : Bool) (all now : ℕ) → cond counting all 0 ≡ now → cond counting (Some now) None ≡ cond counting (Some all) None
 waits_are true all now e = ap Some (sym e)
 waits_are false all now e = refl
@@ -90,17 +94,13 @@ module _ {S : Type 0} (w : S → Option (List ℕ)) (f : S → ℕ) where
     full = λ e. absurd (no e);
     count = sym is.count;
     left = let h = is.count in omega (arith, h);
-    waits = none_yet j.counts_waits ∙ sym is.waits;
+    waits = none_yet j.counts_waits 0 ∙ sym is.waits;
     busy = is.busy;
     puts = let P : Bytes → Type 0 = λ held. HasPut w f first first held [] in subst P (sym is.held) (put_none w f first);
   }
     where
       no : false ≡ true → ⊥
       no e = cc
-
-      none_yet : (v : Bool) → cond v 0 0 ≡ 0
-      none_yet true = refl
-      none_yet false = refl
 
   -- ---- the whole
 

@@ -1,5 +1,5 @@
 //! The choices of a run.
-ghost use Rattle.tower_run.specs.Going.{IsGoing, Carries, MayStop, once, repeating, applying, choosing};
+ghost use Rattle.tower_run.specs.Going.{IsGoing, Carries, MayStop, NeverPasses, once, repeating, applying, choosing};
 
 use crate::going::{Going, Job, Turn};
 use crate::turns::{event, finish, go, idle, see};
@@ -49,6 +49,20 @@ fn apply<O: Sink>(job: &Job, run: &mut Going, choice: Choice, out: &mut O) -> Tu
     }
 }
 
+/// Applies a choice, and tells no more of one that was passed over.
+fn apply_next<O: Sink>(job: &Job, run: &mut Going, choice: Choice, out: &mut O) -> Turn
+    requires { IsGoing O.written O.faults job.now run.old out.old }
+    ensures carries { Carries O.written O.faults (applying choice) job.now run.old out.old run.new out.new result }
+    ensures never_passes { NeverPasses result }
+{
+    match apply(job, run, choice, out) {
+        Turn::Went => Turn::Went,
+        Turn::Passed => Turn::Went,
+        Turn::Stopped => Turn::Stopped,
+        Turn::Failed => Turn::Failed,
+    }
+}
+
 /// Applies the choices, one after another, until the run has ended, and then goes on to its end. After `Went` it is
 /// done.
 pub fn choose<O: Sink>(job: &Job, run: &mut Going, choices: &[Choice], out: &mut O) -> Turn
@@ -59,9 +73,9 @@ pub fn choose<O: Sink>(job: &Job, run: &mut Going, choices: &[Choice], out: &mut
         if run.machine.finished() {
             return Turn::Went;
         }
-        match apply(job, run, *choice, out) {
+        match apply_next(job, run, *choice, out) {
             Turn::Went => {}
-            Turn::Passed => {}
+            Turn::Passed => return Turn::Passed,
             Turn::Stopped => return Turn::Stopped,
             Turn::Failed => return Turn::Failed,
         }

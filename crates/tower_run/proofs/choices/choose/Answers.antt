@@ -1,19 +1,39 @@
 use Rattle.std.proofs.Common.{◌≡◌, ◌<◌, ◌+◌, ◌∙◌, ℕ, List, [], ◌∷◌, drop, sym, ap, refl, arith}
 use Rattle.tower_run.specs.declared.going.Turn.TheVariants as turn
 use Rattle.tower_run.specs.Going.{choosing, applying, ending}
-use Rattle.tower_run.proofs.Carried.{so_far_none, so_far_going, composed, choose_ends, choose_exits, choose_more, choose_left, never_passed, stopped_not_went, stopped_not_passed, failed_not_went, failed_not_passed, went_not_passed}
+use Rattle.tower_run.proofs.Carried.{so_far_none, so_far_going, composed, choose_ends, choose_exits, choose_more, choose_left, drop_is, drop_none, never_passed, stopped_not_went, stopped_not_passed, failed_not_went, failed_not_passed, went_not_passed}
 use Rattle.tower_run.proofs.choices.choose.Goals as goal
 
 pub loop-choice-init : goal.loop-choice-init
 loop-choice-init g c = so_far_none g.O.Sink.written g.O.Sink.faults (choosing c.args.choices.now) c.args.job.now c.args.run.now c.args.out.now
 
-pub apply-requires : goal.apply-requires
-apply-requires g c =
+pub apply_next-requires : goal.apply_next-requires
+apply_next-requires g c =
     so_far_going g.O.Sink.written g.O.Sink.faults (choosing (drop c.loop-choice.choice-index c.args.choices.now)) (choosing c.args.choices.now) c.args.job.now c.args.run.now c.loop-choice.run c.args.out.now c.loop-choice.out c.requires c.loop-choice.invariant
 
 pub finish-requires : goal.finish-requires
 finish-requires g c =
     so_far_going g.O.Sink.written g.O.Sink.faults (choosing (drop c.loop-choice.choice-index c.args.choices.now)) (choosing c.args.choices.now) c.args.job.now c.args.run.now c.loop-choice.run c.args.out.now c.loop-choice.out c.requires c.loop-choice.invariant
 
-pub loop-choice-preserved-in-Went : goal.loop-choice-preserved-in-Went
-loop-choice-preserved-in-Went g c = ?
+pub returns-then-finished : goal.returns-then-finished
+returns-then-finished g c =
+    composed g.O.Sink.written g.O.Sink.faults (choosing (drop c.loop-choice.choice-index c.args.choices.now)) (choosing c.args.choices.now) c.args.job.now c.args.run.now c.loop-choice.run c.loop-choice.run c.args.out.now c.loop-choice.out c.loop-choice.out turn.Went c.loop-choice.invariant went_not_passed
+    (choose_ends g.O.Sink.written g.O.Sink.faults _ (drop c.loop-choice.choice-index c.args.choices.now) c.args.job.now c.loop-choice.run c.loop-choice.run c.loop-choice.out c.loop-choice.out (sym c.finished.ensures ∙ c.if-finished.true))
+
+pub loop-choice-preserved : goal.loop-choice-preserved
+loop-choice-preserved g c = ?
+
+pub returns-in-Passed : goal.returns-in-Passed
+returns-in-Passed g c = absurd c.in-Passed.ensures.never_passes
+
+pub returns-in-Stopped : goal.returns-in-Stopped
+returns-in-Stopped g c = ?
+
+pub returns-in-Failed : goal.returns-in-Failed
+returns-in-Failed g c = ?
+
+pub returns : goal.returns
+returns g c =
+    composed g.O.Sink.written g.O.Sink.faults (choosing []) (choosing c.args.choices.now) c.args.job.now c.args.run.now c.loop-choice.run c.finish.new.run c.args.out.now c.loop-choice.out c.finish.new.out c.finish.result
+    (choose_left g.O.Sink.written g.O.Sink.faults c.args.choices.now [] (drop c.loop-choice.choice-index c.args.choices.now) c.args.job.now c.args.run.now c.loop-choice.run c.args.out.now c.loop-choice.out
+    (drop_none c.args.choices.now c.loop-choice.choice-index c.loop-choice-test.false) c.loop-choice.invariant) (never_passed c.finish.result c.finish.ensures.never_passes) c.finish.ensures.carries
