@@ -86,6 +86,11 @@ stepped_here x r r' h =
     let is : h.0 ≡ x = same_Some h.0 x (sym h.1) in
     subst (λ y. Stepped y r r') is h.2
 
+-- functions that are alike, repeated
+repeated_alike : (n : ℕ) (f g : Planning → Planning) → ((s : Planning) → f s ≡ g s) → (s : Planning) → repeated n f s ≡ repeated n g s
+repeated_alike zero f g e s = refl
+repeated_alike (suc n) f g e s = ap (repeated n f) (e s) ∙ repeated_alike n f g e (g s)
+
 module _ {S : Type 0} (w : S → Option (List ℕ)) (f : S → ℕ) where
   -- ---- the same run
 
@@ -669,3 +674,25 @@ module _ {S : Type 0} (w : S → Option (List ℕ)) (f : S → ℕ) where
   -- a turn that was passed over, told as one that went
   pub went_so : (part : Part) (j : Job) (r r' : Going) (o o' : S) → Carries w f part j r o r' o' turn.Passed → Carries w f part j r o r' o' turn.Went
   went_so part j r r' o o' h = record { on = λ c s first told. (h.on c s first told).0 }
+
+  module _ (cs : List Choice) (i : ℕ) (d : Choice) (j : Job) (r0 r r' : Going) (o0 o o' : S) (less : i < length cs) (unfinished : is_finished r.machine.program (events_of r.machine.events) r.machine.machine ≡ false)
+      (so_far : SoFar w f (choosing (drop i cs)) (choosing cs) j r0 o0 r o) where
+    pub choose_next : Carries w f (applying (slice_index_or cs i d)) j r o r' o' turn.Went → SoFar w f (choosing (drop (i + 1) cs)) (choosing cs) j r0 o0 r' o'
+    choose_next h = choose_more cs (drop (i + 1) cs) (slice_index_or cs i d) (drop i cs) j r0 r r' o0 o o' (drop_is cs i d less) unfinished so_far h.on
+
+    pub choose_stop : (result : Turn) → (result ≡ turn.Went → ⊥) → (result ≡ turn.Passed → ⊥) → Carries w f (applying (slice_index_or cs i d)) j r o r' o' result → Carries w f (choosing cs) j r0 o0 r' o' result
+    choose_stop result not_went not_passed h =
+        composed (choosing (slice_index_or cs i d ∷ drop (i + 1) cs)) (choosing cs) j r0 r r' o0 o o' result
+        (choose_left cs (slice_index_or cs i d ∷ drop (i + 1) cs) (drop i cs) j r0 r o0 o (drop_is cs i d less) so_far) not_passed
+        (choose_exits (slice_index_or cs i d) (drop (i + 1) cs) j r r' o o' unfinished result not_went not_passed h)
+
+  -- ---- a choice that is repeated
+
+  pub go_is : (k n : ℕ) (c : Course) (s : Planning) → repeating n (choice.Go k n) c s ≡ applying (choice.Go k n) c s
+  go_is k n c s = repeated_alike n (once (choice.Go k n) c) (going k c) (λ u. refl) s
+
+  pub see_is : (k n : ℕ) (c : Course) (s : Planning) → repeating n (choice.See k n) c s ≡ applying (choice.See k n) c s
+  see_is k n c s = repeated_alike n (once (choice.See k n) c) (seeing k c) (λ u. refl) s
+
+  pub ev_is : (n : ℕ) (c : Course) (s : Planning) → repeating n (choice.Ev n) c s ≡ applying (choice.Ev n) c s
+  ev_is n c s = repeated_alike n (once (choice.Ev n) c) (entering c) (λ u. refl) s
