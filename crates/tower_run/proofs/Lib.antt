@@ -5,4 +5,6 @@ pub mod Accepted
 pub mod Waited
 pub mod Ready
 pub mod Steps
-pub mod Turns
+pub mod Carried
+pub mod Ends
+pub mod Busy

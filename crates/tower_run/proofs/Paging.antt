@@ -1,5 +1,7 @@
 -- Texts that go through a page to a sink, one after another.
 use Rattle.std.proofs.Common.{◌≡◌, ℕ, zero, suc, ◌+◌, ◌-◌, ◌<◌, ◌≤◌, List, [], ◌∷◌, ◌++◌, Option, Some, refl, sym, ap, ◌∙◌, subst, arith, append_assoc, append-nil}
+use Rattle.std.specs.Prelude.{take, length}
+use Rattle.std.proofs.lemmas.Option.{same_Some}
 use Rattle.std.specs.List.{flat_map}
 use Rattle.std.proofs.lemmas.Grind.{flat_map-append}
 use Rattle.tower_io.specs.declared.answers.Put.{Put}
@@ -139,3 +141,24 @@ module _ {S : Type 0} {w : S → Option (List ℕ)} {f : S → ℕ} (text : ℕ 
   over_number_part {a} {b} {c} {x} {y} {z} n h before here =
       let part = texts_upto text (i + 1) n (omega arith) in
       over_same part.1 (over_stop part.0 (over_same (texts_more text i) (over_then put.Failed before here)))
+
+-- ---- a page and the sink behind it
+
+-- what was put on the page and did not fit is taken back
+pub taken_back : (old new piece : Bytes) → AddsPrefix (Some old) (Some new) piece → take (length old) new ≡ old
+taken_back old new piece p =
+    let is : new ≡ old ++ p.part = same_Some new (old ++ p.part) (p.adds.added old refl) in
+    ap (take (length old)) is ∙ front old p.part
+  where
+    front : (xs ys : Bytes) → take (length xs) (xs ++ ys) ≡ xs
+    front [] ys = refl
+    front (x ∷ xs) ys = ap (λ l. x ∷ l) (front xs ys)
+
+-- what the page held was put, and then the text
+pub over_past : {S : Type 0} (w : S → Option (List ℕ)) (f : S → ℕ) (a b c : S) (held text : Bytes) (r : Put) → Puts w f a b held put.Done → Puts w f b c text r → PutsOver w f a held c [] text r
+over_past w f a b c held text put.Done p q = record { behind = λ first told h. put_past text (put_flushed h p) q }
+over_past w f a b c held text put.Failed p q = record { behind = λ first told h. past_failed text (put_flushed h p) q }
+
+-- what the page held could not be put
+pub over_flush_failed : {S : Type 0} (w : S → Option (List ℕ)) (f : S → ℕ) (a b : S) (held kept text : Bytes) → Puts w f a b held put.Failed → PutsOver w f a held b kept text put.Failed
+over_flush_failed w f a b held kept text p = record { behind = λ first told h. failed_longer text (flush_failed h p) }

@@ -125,15 +125,15 @@ module _ {S : Type 0} (w : S → Option (List ℕ)) (f : S → ℕ) (c : Course)
   left_none full = omega (arith, told.left, limit_is, full)
 
   -- what holds of the machine, in the words of the course
-  stands_here : (x : ℕ) → standing_in r.machine x ≡ IsReady → standing c.program c.events s.run.machine x ≡ IsReady
+  pub stands_here : (x : ℕ) → standing_in r.machine x ≡ IsReady → standing c.program c.events s.run.machine x ≡ IsReady
   stands_here x e =
       let at : standing c.program c.events r.machine.machine x ≡ IsReady = let P : Course → Type 0 = λ d. standing d.program d.events r.machine.machine x ≡ IsReady in subst P told.course e in
       ap (λ m. standing c.program c.events m x) told.machine ∙ at
 
-  does_here : (x : ℕ) → next_does c.program s.run.machine x ≡ does_next r.machine x
+  pub does_here : (x : ℕ) → next_does c.program s.run.machine x ≡ does_next r.machine x
   does_here x = ap (λ m. next_does c.program m x) told.machine ∙ ap (λ (d : Course). next_does d.program r.machine.machine x) (sym told.course)
 
-  waits_here : (k x : ℕ) → waits_before (by c) c.program c.events s.run.machine (goes k x) ≡ is_named_waiting r.machine k
+  pub waits_here : (k x : ℕ) → waits_before (by c) c.program c.events s.run.machine (goes k x) ≡ is_named_waiting r.machine k
   waits_here k x =
       ap (λ m. waits_before (by c) c.program c.events m (goes k x)) told.machine
       ∙ ap (λ (d : Course). waits_before (by d) d.program d.events r.machine.machine (goes k x)) (sym told.course)

@@ -1,16 +1,28 @@
 -- How a run ends, with what it has put on a sink.
-use Rattle.std.specs.Prelude.{◌≡◌, ℕ, List, Bool, true, false, Option}
+use Rattle.std.specs.Prelude.{◌≡◌, ℕ, ◌<◌, List, [], ◌++◌, length, cond, Bool, true, false, Option, Some, None}
 use Rattle.tower_syntax.specs.declared.event.Choice.{Choice}
-use Rattle.tower_syntax.specs.Arch.{Events}
+use Rattle.tower_syntax.specs.Arch.{Arch, Events}
+use Rattle.tower_syntax.specs.declared.event.Events.{Events as EventsValue}
+use Rattle.tower_io.specs.declared.answers.Put.{Put}
+use Rattle.tower_io.specs.declared.answers.Put.TheVariants as put
 use Rattle.tower_io.specs.Faults.{Rose}
 use Rattle.tower_io.specs.Sinks.{Adds, AddsPrefix}
 use Rattle.task_code.specs.Program.{Program}
-use Rattle.task_code.specs.Plan.{plan}
+use Rattle.task_code.specs.Policy.{priorities}
+use Rattle.task_code.specs.Plan.{plan, Planned, Planning, instructions}
+use Rattle.task_machine.specs.State.{start}
 use Rattle.tower_report.specs.declared.rule.Rule.{Rule}
 use Rattle.tower_report.specs.Bytes.{Bytes}
-use Rattle.tower_report.specs.RunText.{policy_of}
+use Rattle.tower_report.specs.RunText.{policy_of, waits}
+use Rattle.tower_report.specs.EndText.{end_text}
 use Rattle.tower_run.specs.declared.run.Ran.{Ran}
 use Rattle.tower_run.specs.declared.run.Ran.TheVariants as ran
+use Rattle.tower_run.specs.declared.run.Begun.{Begun}
+use Rattle.tower_run.specs.declared.going.Job.{Job}
+use Rattle.tower_run.specs.declared.going.Going.{Going}
+use Rattle.tower_run.specs.Paging.{HasPut, HasFailed}
+use Rattle.tower_run.specs.Pieces.{IsFitMonitor}
+use Rattle.tower_run.specs.Going.{Course, by, begun, shown, choosing, Tells}
 
 -- does the plan of the run with these choices and at most so many instructions end stopped
 abbrev pub run_stops : Program → Events → List Choice → ℕ → Option Rule → Bool
@@ -23,3 +35,49 @@ RunEnds written faults old new text stops ran.Done = (stops ≡ false) × Adds (
 RunEnds written faults old new text stops ran.Stopped = (stops ≡ true) × Adds (written old) (written new) text × (faults new ≡ faults old)
 RunEnds written faults old new text stops ran.WriteFault = AddsPrefix (written old) (written new) text × Rose (faults old) (faults new)
 RunEnds written faults old new text stops ran.NoMemory = new ≡ old
+
+-- ---- the parts of the call
+
+-- a run of this program on this record that has not begun
+pub record IsBegun (p : Program) (events : EventsValue) (b : Begun) : Type 0 where
+  pub rule : b.rule ≡ priorities p
+  pub tasks : b.tasks ≡ length p.tasks
+  pub machine : b.run.machine ≡ start p events
+  pub held : b.run.page.held ≡ []
+  pub busy : length b.run.busy.items ≡ length p.tasks
+  pub count : b.run.count ≡ 0
+  pub waits : b.run.waits ≡ 0
+
+-- the lines at the end can be put
+pub record CanEnd (j : Job) (r : Going) : Type 0 where
+  pub monitors : (m : ℕ) → m < length j.arch.now.monitors → IsFitMonitor j.arch.now r.machine m
+  pub sources : length j.arch.now.sources ≡ length r.machine.program.tasks
+
+-- the answer of a run whose last put was so
+abbrev pub ran_of : Put → Bool → Ran
+ran_of put.Done stopped = cond stopped ran.Stopped ran.Done
+ran_of put.Failed stopped = ran.WriteFault
+
+-- the number of the waits, where they are counted
+abbrev pub waits_in : Course → List Planned → Option ℕ
+waits_in c steps = cond c.counting (Some (waits (by c) c.program c.events (begun c) steps)) None
+
+-- the text of a run with this plan
+abbrev pub whole_text : Course → Planning → Bytes
+whole_text c s = shown c s.steps ++ end_text c.arch s.run.machine (instructions s.steps) (waits_in c s.steps) s.stopped
+
+module _ {S : Type 0} (written : S → Option (List ℕ)) (faults : S → ℕ) where
+  -- since `first` the run with this plan ended so
+  abbrev pub Ended : Course → Planning → S → S → Ran → Type 0
+  Ended c s first out ran.Done = (s.stopped ≡ false) × HasPut written faults first out [] (whole_text c s)
+  Ended c s first out ran.Stopped = (s.stopped ≡ true) × HasPut written faults first out [] (whole_text c s)
+  Ended c s first out ran.WriteFault = HasFailed written faults first out (whole_text c s)
+  Ended c s first out ran.NoMemory = ⊥
+
+  -- a run whose plan is at its end, stopped or not, has ended so
+  abbrev pub EndsRun : Job → Going → S → S → Bool → Ran → Type 0
+  EndsRun j r from to stopped result = (c : Course) (s : Planning) (first : S) → Tells written faults c s stopped first j r from → Ended c s first to result
+
+  -- a run was carried out by these choices
+  abbrev pub CarriesOut : Job → Going → S → S → List Choice → Ran → Type 0
+  CarriesOut j r from to choices result = (c : Course) (s : Planning) (first : S) → Tells written faults c s false first j r from → Ended c (choosing choices c s) first to result

@@ -109,6 +109,19 @@ shown c steps = steps_text c.arch c.program c.events 0 (begun c) steps
 abbrev pub waited : Course → List Planned → ℕ
 waited c steps = cond c.counting (waits (by c) c.program c.events (begun c) steps) 0
 
+-- what stays: the program is sound for the system, which was accepted, and the rule is that of the program
+pub record IsJob (j : Job) (c : Course) : Type 0 where
+  pub rule : j.rule ≡ priorities c.program
+  pub tasks : j.tasks ≡ length c.program.tasks
+  pub accepted : (bs : List ℕ) × IsAccepted bs c.arch
+  pub sound : Sound c.arch c.program
+  pub fit : Fit c.arch c.events
+  pub limit : c.limit ≤ 1000000000
+
+abbrev pub turn_of_put : Put → Turn
+turn_of_put put.Done = turn.Went
+turn_of_put put.Failed = turn.Failed
+
 module _ {S : Type 0} (written : S → Option (List ℕ)) (faults : S → ℕ) where
   -- the run has come as far as this plan, which has stopped or not, and since `first` the text of its steps was put
   pub record Tells (c : Course) (s : Planning) (stopped : Bool) (first : S) (j : Job) (r : Going) (out : S) : Type 0 where
@@ -134,15 +147,6 @@ module _ {S : Type 0} (written : S → Option (List ℕ)) (faults : S → ℕ) w
   pub record Carries (part : Part) (j : Job) (old : Going) (from : S) (new : Going) (to : S) (result : Turn) : Type 0 where
     pub on : (c : Course) (s : Planning) (first : S) → Tells c s false first j old from → Told c s (part c s) first j new to result
 
-  -- what stays: the program is sound for the system, which was accepted, and the rule is that of the program
-  pub record IsJob (j : Job) (c : Course) : Type 0 where
-    pub rule : j.rule ≡ priorities c.program
-    pub tasks : j.tasks ≡ length c.program.tasks
-    pub accepted : (bs : List ℕ) × IsAccepted bs c.arch
-    pub sound : Sound c.arch c.program
-    pub fit : Fit c.arch c.events
-    pub limit : c.limit ≤ 1000000000
-
   -- the run is going on, as some plan so far
   pub record IsGoing (j : Job) (r : Going) (out : S) : Type 0 where
     pub course : Course
@@ -152,10 +156,6 @@ module _ {S : Type 0} (written : S → Option (List ℕ)) (faults : S → ℕ) w
     pub told : Tells course planned false first j r out
 
   -- ---- what is known of a turn
-
-  abbrev pub turn_of_put : Put → Turn
-  turn_of_put put.Done = turn.Went
-  turn_of_put put.Failed = turn.Failed
 
   -- the lines of the last step were put
   pub record Shows (arch : Arch) (mark : Option Mark) (old : Going) (from : S) (new : Going) (to : S) (result : Turn) : Type 0 where

@@ -1,12 +1,12 @@
 //! The run of a program, with its text.
-ghost use Rattle.std.specs.Prelude.{◌≡◌, ◌≤◌, ◌<◌, [], List, ℕ, length, map, replicate, false, IfOk, is_some};
+ghost use Rattle.std.specs.Prelude.{◌≡◌, ◌≤◌, map, cond, IfOk, Some, None};
 ghost use Rattle.tower_syntax.specs.View.{events_of};
 ghost use Rattle.tower_meaning.specs.Atomic.{Fit};
 ghost use Rattle.lock_reduction.specs.Reduce.{Sound};
-ghost use Rattle.task_code.specs.Program.{Program as ProgramLists};
-ghost use Rattle.task_code.specs.Policy.{priorities};
+ghost use Rattle.task_code.specs.Fits.{Fits};
 ghost use Rattle.tower_report.specs.RunText.{run_text};
-ghost use Rattle.tower_run.specs.Ending.{run_stops, RunEnds};
+ghost use Rattle.tower_run.specs.Going.{IsGoing};
+ghost use Rattle.tower_run.specs.Ending.{run_stops, RunEnds, ran_of, IsBegun, CanEnd, EndsRun, CarriesOut};
 
 use crate::choices::choose;
 use crate::ending::{End, put_ending};
@@ -18,7 +18,7 @@ use task_code::{Program, Task};
 use task_machine::{Fixed, Machine};
 use tower_io::{Put, Sink};
 use tower_report::Rule;
-use tower_syntax::{Arch, Choice, Events};
+use tower_syntax::{Choice, Events};
 use tower_types::NoMemory;
 
 /// How a run ended.
@@ -34,6 +34,14 @@ pub enum Ran {
     NoMemory,
 }
 
+/// A run that has not begun, with the rule for turns and the number of tasks.
+#[derive(Drop)]
+struct Begun {
+    rule: Fixed,
+    tasks: u32,
+    run: Going,
+}
+
 /// The priorities of tasks, in their order.
 fn priorities_of(alloc: Global, tasks: &[Task]) -> Result<Vec<u8>, NoMemory>
     ensures { IfOk result (λ ps. ps.items ≡ map (λ t. t.priority) tasks.now) }
@@ -46,45 +54,114 @@ fn priorities_of(alloc: Global, tasks: &[Task]) -> Result<Vec<u8>, NoMemory>
 }
 
 /// The start of a run, with all the memory that it takes.
-fn begin(alloc: Global, program: Program, events: Events) -> Result<(Fixed, Going), NoMemory>
+fn begin(alloc: Global, program: Program, events: Events) -> Result<Begun, NoMemory>
     requires { Fits program (events_of events) }
-    ensures { IfOk result (λ begun. IsBegun program events begun.0 begun.1) }
+    ensures { IfOk result (λ begun. IsBegun program events begun) }
 {
+    let tasks = program.tasks().len() as u32;
     let rule = Fixed::new(priorities_of(alloc, program.tasks())?);
-    let busy = vec![in alloc; false; program.tasks().len()]?;
+    let busy = vec![in alloc; false; tasks as usize]?;
     let page = Page::new(alloc)?;
     let machine = Machine::new(alloc, program, events)?;
-    Ok((
-        rule,
-        Going {
-            machine,
-            page,
-            busy,
-            count: 0,
-            waits: 0,
-        },
-    ))
+    let run = Going {
+        machine,
+        page,
+        busy,
+        count: 0,
+        waits: 0,
+    };
+    Ok(Begun { rule, tasks, run })
 }
 
-/// Puts the lines at the end of a run, and then what the page holds.
-fn end<O: Sink>(job: &Job, run: &mut Going, stopped: bool, out: &mut O) -> Ran
+/// The number of the waits, where they are counted.
+fn waits_of(job: &Job, run: &Going) -> Option<u64>
+    ensures { result ≡ cond job.now.counts_waits (Some run.now.waits) None }
 {
-    let end = End {
-        count: run.count,
-        waits: if job.counts_waits {
-            Some(run.waits)
-        } else {
-            None
-        },
-        stopped,
-    };
-    match put_ending(&mut run.page, out, job.arch, &run.machine, end) {
-        Put::Done => {}
-        Put::Failed => return Ran::WriteFault,
+    if job.counts_waits {
+        Some(run.waits)
+    } else {
+        None
     }
-    match run.page.flush(out) {
+}
+
+/// The answer of a run whose last put was so.
+fn answer(put: Put, stopped: bool) -> Ran
+    ensures { result ≡ ran_of put stopped }
+{
+    match put {
         Put::Done if stopped => Ran::Stopped,
         Put::Done => Ran::Done,
         Put::Failed => Ran::WriteFault,
     }
+}
+
+/// Puts the lines at the end of a run, and then what the page holds.
+fn end<O: Sink>(job: &Job, run: &mut Going, stopped: bool, out: &mut O) -> Ran
+    requires { CanEnd job.now run.old }
+    ensures { EndsRun O.written O.faults job.now run.old out.old out.new stopped result }
+{
+    let end = End {
+        count: run.count,
+        waits: waits_of(job, run),
+        stopped,
+    };
+    match put_ending(&mut run.page, out, job.arch, &run.machine, end) {
+        Put::Done => answer(run.page.flush(out), stopped),
+        Put::Failed => Ran::WriteFault,
+    }
+}
+
+/// Carries out a run by these choices, with its text.
+fn carry_out<O: Sink>(job: &Job, run: &mut Going, choices: &[Choice], out: &mut O) -> Ran
+    requires { IsGoing O.written O.faults job.now run.old out.old }
+    ensures { CarriesOut O.written O.faults job.now run.old out.old out.new choices.now result }
+{
+    match choose(job, run, choices, out) {
+        Turn::Went => end(job, run, false, out),
+        Turn::Passed => end(job, run, false, out),
+        Turn::Stopped => end(job, run, true, out),
+        Turn::Failed => Ran::WriteFault,
+    }
+}
+
+/// Runs a program that is sound for a system on an event record that fits it, by these choices, with at most `n`
+/// instructions, and puts the text of the run. Where a rule is given, turns are given by it, and the text has the line
+/// `waits`; where none is given they are given by `Fixed`.
+///
+/// It takes all its memory before the first put, so `NoMemory` leaves the sink as it was. After `WriteFault` a first
+/// part of the text was put. The program and the events are dropped.
+pub fn run_program<O: Sink>(
+    alloc: Global,
+    arch: &Checked,
+    program: Program,
+    events: Events,
+    choices: &[Choice],
+    n: u64,
+    out: &mut O,
+    rule: Option<Rule>,
+) -> Ran
+    requires sound { Sound arch.now program }
+    requires fit { Fit arch.now (events_of events) }
+    requires limit { n ≤ 1000000000 }
+    ensures ends { RunEnds O.written O.faults out.old out.new (run_text arch.now program (events_of events) choices.now n rule)
+        (run_stops program (events_of events) choices.now n rule) result }
+    ensures never_falls { O.faults out.old ≤ O.faults out.new }
+{
+    let arch = arch.arch();
+    let Begun {
+        rule: turns,
+        tasks,
+        mut run,
+    } = match begin(alloc, program, events) {
+        Ok(begun) => begun,
+        Err(_) => return Ran::NoMemory,
+    };
+    let job = Job {
+        arch,
+        rule: turns,
+        tasks,
+        limit: n,
+        counts_waits: rule.is_some(),
+    };
+    carry_out(&job, &mut run, choices, out)
 }

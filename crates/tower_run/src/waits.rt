@@ -1,11 +1,11 @@
 //! Whether the rule names a waiting task.
-ghost use Rattle.std.specs.Prelude.{◌≡◌, ◌&&◌, length};
+ghost use Rattle.std.specs.Prelude.{◌≡◌, ◌<◌, ◌&&◌, length};
 ghost use Rattle.task_code.specs.Policy.{priorities};
 ghost use Rattle.task_machine.specs.State.{standing_in};
 ghost use Rattle.tower_report.specs.RunText.{is_waiting};
 ghost use Rattle.tower_run.specs.Waiting.{busy_in, is_named_waiting};
 
-use crate::going::{Going, Job};
+use crate::going::Job;
 use task_machine::{Machine, Policy, Standing};
 
 /// Notes which of so many tasks are not idle.
@@ -34,20 +34,20 @@ fn waits_for_lock(machine: &Machine, task: u32) -> bool
 }
 
 /// Whether it is counted, and the rule, over all tasks that are not idle, names a waiting task for the number `k`.
-pub fn is_wait(job: &Job, run: &mut Going, k: u32) -> bool
-    requires rule { job.now.rule ≡ priorities run.old.machine.program }
-    requires tasks { job.now.tasks ≡ length run.old.machine.program.tasks }
-    requires busy { length run.old.busy.items ≡ length run.old.machine.program.tasks }
-    ensures waits { result ≡ (job.now.counts_waits && is_named_waiting run.old.machine k) }
-    ensures busy { length run.new.busy.items ≡ length run.old.busy.items }
-    ensures same { run.new ≡ record run.old { busy = run.new.busy } }
+/// `busy` has a place for each task.
+pub fn is_wait(job: &Job, machine: &Machine, busy: &mut Vec<bool>, k: u32) -> bool
+    requires rule { job.now.rule ≡ priorities machine.now.program }
+    requires tasks { job.now.tasks ≡ length machine.now.program.tasks }
+    requires busy { length busy.old.items ≡ length machine.now.program.tasks }
+    ensures waits { result ≡ (job.now.counts_waits && is_named_waiting machine.now k) }
+    ensures busy { length busy.new.items ≡ length busy.old.items }
 {
     if !job.counts_waits {
         return false;
     }
-    note_busy(&run.machine, job.tasks, &mut run.busy);
-    match job.rule.pick(run.busy.as_slice(), run.machine.holds(), k) {
-        Some(x) => waits_for_lock(&run.machine, x),
+    note_busy(machine, job.tasks, busy);
+    match job.rule.pick(busy.as_slice(), machine.holds(), k) {
+        Some(x) => waits_for_lock(machine, x),
         None => false,
     }
 }

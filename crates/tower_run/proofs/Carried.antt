@@ -1,7 +1,8 @@
 -- The turns of a run: what each carries out.
-use Rattle.std.proofs.Common.{◌≡◌, ◌<◌, ◌≤◌, ◌+◌, ◌-◌, ℕ, zero, suc, List, [], ◌∷◌, ◌++◌, map, length, Option, Some, None, Bool, true, false, ◌&&◌, ◌||◌, not, refl, sym, ap, ◌∙◌, subst, arith, slice_get, is_some, cond}
+use Rattle.std.proofs.Common.{◌≡◌, ◌<◌, ◌≤◌, ◌+◌, ◌-◌, ℕ, zero, suc, List, [], ◌∷◌, ◌++◌, map, length, Option, Some, None, Bool, true, false, ◌&&◌, ◌||◌, not, refl, sym, ap, ◌∙◌, subst, arith, slice_get, is_some, cond, drop, slice_index_or}
 use Rattle.std.specs.List.{list_any}
-use Rattle.std.proofs.lemmas.Option.{same_Some, none-some}
+use Rattle.std.proofs.lemmas.Option.{same_Some, none-some, slice_get_within}
+use Rattle.std.proofs.lemmas.List.{length-map}
 use Rattle.tower_syntax.specs.declared.event.Choice.{Choice}
 use Rattle.tower_syntax.specs.declared.event.Choice.TheVariants as choice
 use Rattle.tower_syntax.specs.declared.event.Mark.{Mark}
@@ -16,7 +17,7 @@ use Rattle.task_code.specs.Policy.{fixed_names, priorities}
 use Rattle.task_code.specs.Plan as plan
 use Rattle.task_code.specs.Plan.{Planning, picked, is_seen, repeated}
 use Rattle.task_machine.specs.Lawful.{fixed_is_lawful}
-use Rattle.task_machine.specs.State.{State, Turned, turn_of, ready, holds, does_next, standing_in, next_entry, arrived}
+use Rattle.task_machine.specs.State.{State, Turned, turn_of, ready, holds, does_next, standing_in, next_entry, arrived, turned}
 use Rattle.tower_run.specs.declared.going.Job.{Job}
 use Rattle.tower_run.specs.declared.going.Going.{Going}
 use Rattle.tower_run.specs.declared.going.Turn.{Turn}
@@ -24,14 +25,71 @@ use Rattle.tower_run.specs.declared.going.Turn.TheVariants as turn
 use Rattle.tower_run.specs.Paging.{HasPut, HasFailed}
 use Rattle.tower_run.specs.Pieces.{AreFitLines}
 use Rattle.tower_run.specs.Waiting.{is_named_waiting}
-use Rattle.tower_run.specs.Going.{Course, course_of, by, begun, shown, waited, Part, going_with, going, going_on, looking, seeing, entering, idling, unchosen, ending, once, repeating, applying, choosing, most_turns, NeverStops, MayStop, Tells, Told, Carries, IsJob, IsGoing, Shows, Stepped, HasStepped, IsReadyTurn, IsLeftTurn, due_of, task_where, task_left}
+use Rattle.tower_run.specs.Going.{Course, course_of, by, begun, shown, waited, Part, going_with, going, going_on, looking, seeing, entering, idling, unchosen, ending, once, repeating, applying, choosing, most_turns, NeverStops, NeverPasses, MayStop, Tells, Told, Carries, IsJob, IsGoing, Shows, Stepped, HasStepped, IsReadyTurn, IsLeftTurn, IsOneTurn, turn_of_put, due_of, task_where, task_left}
 use Rattle.tower_run.proofs.Plans.{Grows, grows_not, see_rests, go_stays, see_stays, go_grows, see_grows, enter_grows, repeated_same, repeated_split, repeated_grows, choose_stays, choose_goes, choose_grows, finished_ends, first_true, second_true, both_false, go_with_grows, look_grows, look_ends, look_goes, look_after, see_after, idle_stays, idle_rests, idle_goes, idle_grows, unchosen_goes, unchosen_enters, to_end_stays, to_end_rests, to_end_goes, to_end_grows, stopped_ends}
-use Rattle.tower_run.proofs.Ready.{Stepping, named_if_any, none_named, any_at, any_ready, stands_at, ready_at, is_ready_only, unfinished_ready, unfinished_entry}
+use Rattle.tower_run.proofs.Ready.{Stepping, after_place, received_place, named_if_any, none_named, any_at, any_ready, stands_at, ready_at, is_ready_only, unfinished_ready, unfinished_entry}
 use Rattle.tower_run.proofs.Steps.{failed_grows, told_step, left_some, left_none, stands_here, does_here, then_planned, part_is, makes, entered_planned, enters_none, enters, makes_entry}
-use Rattle.tower_run.proofs.Waited.{one_if}
+use Rattle.tower_run.proofs.Waited.{one_if, counted_few, waits_few}
+use Rattle.tower_report.specs.RunText.{waits}
+use Rattle.tower_io.specs.declared.answers.Put.{Put}
+use Rattle.tower_io.specs.declared.answers.Put.TheVariants as put
+
+-- the plan from here on is that from the start on
+abbrev pub SoFar : {S : Type 0} → (S → Option (List ℕ)) → (S → ℕ) → Part → Part → Job → Going → S → Going → S → Type 0
+SoFar {S} w f part other j r0 o0 r o =
+    (c : Course) (s : Planning) (first : S) → Tells w f c s false first j r0 o0 → (t : Planning) × Tells w f c t false first j r o × (part c t ≡ other c s)
 
 not_both : (b : Bool) → b ≡ true → b ≡ false → ⊥
 not_both b e f = cc
+
+pub stopped_not_went : turn.Stopped ≡ turn.Went → ⊥
+stopped_not_went e = cc
+
+pub stopped_not_passed : turn.Stopped ≡ turn.Passed → ⊥
+stopped_not_passed e = cc
+
+pub failed_not_went : turn.Failed ≡ turn.Went → ⊥
+failed_not_went e = cc
+
+pub failed_not_passed : turn.Failed ≡ turn.Passed → ⊥
+failed_not_passed e = cc
+
+pub went_not_passed : turn.Went ≡ turn.Passed → ⊥
+went_not_passed e = cc
+
+-- an element, and those behind it
+pub drop_is : (xs : List Choice) (i : ℕ) (d : Choice) → i < length xs → drop i xs ≡ slice_index_or xs i d ∷ drop (i + 1) xs
+drop_is [] i d h = absurd (omega arith)
+drop_is (x ∷ xs) zero d h = let e : 0 + 1 ≡ 1 = omega arith in ap (λ n. x ∷ drop n (x ∷ xs)) (sym e)
+drop_is (x ∷ xs) (suc i) d h =
+    let e : suc i + 1 ≡ suc (i + 1) = omega arith in
+    let less : i < length xs = omega arith in
+    drop_is xs i d less ∙ ap (λ n. slice_index_or xs i d ∷ drop n (x ∷ xs)) (sym e)
+
+-- none are left
+pub drop_none : (xs : List Choice) (i : ℕ) → length xs ≤ i → drop i xs ≡ []
+drop_none [] zero h = refl
+drop_none [] (suc i) h = refl
+drop_none (x ∷ xs) zero h = absurd (omega arith)
+drop_none (x ∷ xs) (suc i) h = drop_none xs i (omega arith)
+
+-- where a task is ready, the turn is not passed over
+pub passed_not_ready : (bs : List Bool) (x : ℕ) → slice_get bs x ≡ Some true → list_any (λ b. b) bs ≡ false → ⊥
+passed_not_ready bs x e h = not_both (list_any (λ b. b) bs) (any_at bs x e) h
+
+pub never_passed : (t : Turn) → NeverPasses t → t ≡ turn.Passed → ⊥
+never_passed t h e = subst NeverPasses e h
+
+-- the instruction that task x executed
+pub stepped_here : (x : ℕ) (r r' : Going) → HasStepped (Some x) r r' turn.Went → Stepped x r r'
+stepped_here x r r' h =
+    let is : h.0 ≡ x = same_Some h.0 x (sym h.1) in
+    subst (λ y. Stepped y r r') is h.2
+
+-- functions that are alike, repeated
+repeated_alike : (n : ℕ) (f g : Planning → Planning) → ((s : Planning) → f s ≡ g s) → (s : Planning) → repeated n f s ≡ repeated n g s
+repeated_alike zero f g e s = refl
+repeated_alike (suc n) f g e s = ap (repeated n f) (e s) ∙ repeated_alike n f g e (g s)
 
 module _ {S : Type 0} (w : S → Option (List ℕ)) (f : S → ℕ) where
   -- ---- the same run
@@ -196,8 +254,7 @@ module _ {S : Type 0} (w : S → Option (List ℕ)) (f : S → ℕ) where
   -- ---- a turn after others
 
   -- the plan from here on is that from the start on
-  pub composed : (part other : Part) (j : Job) (r0 r r' : Going) (o0 o o' : S) (result : Turn) → ((c : Course) (s : Planning) (first : S) → Tells w f c s false first j r0 o0 → (t : Planning) × Tells w f c t false first j r o × (part c t ≡ other c s))
-      → (result ≡ turn.Passed → ⊥) → Carries w f part j r o r' o' result → Carries w f other j r0 o0 r' o' result
+  pub composed : (part other : Part) (j : Job) (r0 r r' : Going) (o0 o o' : S) (result : Turn) → SoFar w f part other j r0 o0 r o → (result ≡ turn.Passed → ⊥) → Carries w f part j r o r' o' result → Carries w f other j r0 o0 r' o' result
   composed part other j r0 r r' o0 o o' result so_far not_passed h = record {
     on = λ c s first told.
         let now = so_far c s first told in
@@ -484,3 +541,158 @@ module _ {S : Type 0} (w : S → Option (List ℕ)) (f : S → ℕ) where
           (ends_so (applying ch) moved j r r' o o' result not_went not_passed
           (λ c s stopped none. choose_stays (by c) c.program c.events c.limit cs (applying ch c s) (stopped_ends (by c) c.program c.events c.limit (applying ch c s) stopped))
           (λ c s first told. choose_grows (by c) c.program c.events c.limit cs (applying ch c s)) h)
+
+  -- ---- loops
+
+  pub so_far_none : (part : Part) (j : Job) (r : Going) (o : S) → SoFar w f part part j r o r o
+  so_far_none part j r o = λ c s first told. (s, told, refl)
+
+  -- one turn more, behind which the plan from here on is the same
+  pub so_far_more : (part other step : Part) (j : Job) (r0 r r' : Going) (o0 o o' : S) → SoFar w f part other j r0 o0 r o → Carries w f step j r o r' o' turn.Went
+      → ((c : Course) (s : Planning) (first : S) → Tells w f c s false first j r o → part c (step c s) ≡ part c s) → SoFar w f part other j r0 o0 r' o'
+  so_far_more part other step j r0 r r' o0 o o' so_far h same = λ c s first told.
+      let now = so_far c s first told in
+      (step c now.0, h.on c now.0 first now.1, same c now.0 first now.1 ∙ now.2)
+
+  pub so_far_going : (part other : Part) (j : Job) (r0 r : Going) (o0 o : S) → IsGoing w f j r0 o0 → SoFar w f part other j r0 o0 r o → IsGoing w f j r o
+  so_far_going part other j r0 r o0 o g so_far = still_going j r0 r o0 o g (λ c s first told. let now = so_far c s first told in (now.0, now.1))
+
+  -- ---- what is known of an instruction
+
+  module _ (named : Option ℕ) (m : Option Mark) (n : State) (j : Job) (r r2 r' : Going) (o o' : S) (st : Stepping r.machine named m n) (is_n : r2.machine ≡ n) (is_count : r2.count ≡ r.count + 1) where
+    then_machine : r' ≡ record r2 { page = r'.page } → r'.machine ≡ turned r.machine st.task (does_next r.machine st.task)
+    then_machine same = ap (λ (g : Going). g.machine) same ∙ is_n ∙ st.after
+
+    stepped_by : (answer : Put) → r' ≡ record r2 { page = r'.page } → HasStepped named r r' (turn_of_put answer)
+    stepped_by put.Done same =
+        (st.task, st.is, record { stands = st.stands; last = ap (λ (u : State). u.last) (then_machine same); count = ap (λ (g : Going). g.count) same ∙ is_count })
+    stepped_by put.Failed same = tt
+
+    pub has_stepped : (result : Turn) → Shows w f j.arch.now m r2 o r' o' result → HasStepped named r r' result
+    has_stepped result h = subst (HasStepped named r r') (sym h.is) (stepped_by h.answer h.same)
+
+    ready_by : (answer : Put) → IsReadyTurn (ready r.machine) (turn_of_put answer)
+    ready_by put.Done = any_ready r.machine st.task st.stands
+    ready_by put.Failed = any_ready r.machine st.task st.stands
+
+    pub ready_turn : (result : Turn) → Shows w f j.arch.now m r2 o r' o' result → IsReadyTurn (ready r.machine) result
+    ready_turn result h = subst (IsReadyTurn (ready r.machine)) (sym h.is) (ready_by h.answer)
+
+    one_by : (limit : ℕ) → r.count < limit → (answer : Put) → r' ≡ record r2 { page = r'.page } → IsOneTurn limit r r' (turn_of_put answer)
+    one_by limit less put.Done same =
+        let count : r'.count ≡ r.count + 1 = ap (λ (g : Going). g.count) same ∙ is_count in
+        let place : r'.machine.machine.place ≡ r.machine.machine.place = ap (λ (u : State). u.machine.place) (then_machine same) ∙ after_place r.machine.machine st.task (does_next r.machine st.task) in
+        let entries : length (events_of r'.machine.events).entries ≡ length (events_of r.machine.events).entries = ap (λ (u : State). length (events_of u.events).entries) (then_machine same) in
+        omega (arith, count, place, entries, less)
+    one_by limit less put.Failed same = tt
+
+    pub one_turn : (limit : ℕ) → r.count < limit → (result : Turn) → Shows w f j.arch.now m r2 o r' o' result → IsOneTurn limit r r' result
+    one_turn limit less result h = subst (IsOneTurn limit r r') (sym h.is) (one_by limit less h.answer h.same)
+
+  pub due_stepped : (o : Option ℕ) (r r' : Going) (b : Bool) → HasStepped o r r' (due_of b)
+  due_stepped o r r' true = tt
+  due_stepped o r r' false = tt
+
+  pub due_ready : (bs : List Bool) (b : Bool) → b ≡ list_any (λ b. b) bs → IsReadyTurn bs (due_of b)
+  due_ready bs true e = sym e
+  due_ready bs false e = sym e
+
+  pub due_one : (limit : ℕ) (r r' : Going) (b : Bool) → IsOneTurn limit r r' (due_of b)
+  due_one limit r r' true = tt
+  due_one limit r r' false = tt
+
+  -- no more waits than instructions
+  pub few_waits : (j : Job) (r : Going) (o : S) → IsGoing w f j r o → r.waits ≤ r.count
+  few_waits j r o g =
+      let t = g.told in
+      let few = counted_few g.course.counting (waits (by g.course) g.course.program g.course.events (begun g.course) g.planned.steps) (plan.instructions g.planned.steps) (waits_few (by g.course) g.course.program g.course.events (begun g.course) g.planned.steps) in
+      omega (arith, few, t.waits, t.count)
+
+  pub rule_length : (j : Job) (r : Going) (o : S) → IsGoing w f j r o → length j.rule ≡ length r.machine.program.tasks
+  rule_length j r o g = ap length (job_rule j r o g) ∙ length-map r.machine.program.tasks (λ t. t.priority)
+
+  -- ---- what is known of an entry
+
+  module _ (e : Entry) (n : State) (j : Job) (r r2 r' : Going) (o o' : S) (here : next_entry r.machine ≡ Some e) (is : n ≡ arrived r.machine e) (same2 : r2 ≡ record r { machine = n }) where
+    entry_never : (answer : Put) → NeverStops (turn_of_put answer)
+    entry_never put.Done = tt
+    entry_never put.Failed = tt
+
+    pub entry_stops : (result : Turn) → Shows w f j.arch.now (Some mark.Arrive) r2 o r' o' result → NeverStops result
+    entry_stops result h = subst NeverStops (sym h.is) (entry_never h.answer)
+
+    left_put : (answer : Put) → IsLeftTurn r.machine (turn_of_put answer)
+    left_put put.Done = unfinished_entry r.machine e here
+    left_put put.Failed = unfinished_entry r.machine e here
+
+    pub entry_left : (result : Turn) → Shows w f j.arch.now (Some mark.Arrive) r2 o r' o' result → IsLeftTurn r.machine result
+    entry_left result h = subst (IsLeftTurn r.machine) (sym h.is) (left_put h.answer)
+
+    entry_by : (limit : ℕ) (answer : Put) → r' ≡ record r2 { page = r'.page } → IsOneTurn limit r r' (turn_of_put answer)
+    entry_by limit put.Done same =
+        let machine : r'.machine ≡ arrived r.machine e = ap (λ (g : Going). g.machine) same ∙ ap (λ (g : Going). g.machine) same2 ∙ is in
+        let count : r'.count ≡ r.count = ap (λ (g : Going). g.count) same ∙ ap (λ (g : Going). g.count) same2 in
+        let place : r'.machine.machine.place ≡ suc r.machine.machine.place = ap (λ (u : State). u.machine.place) machine ∙ received_place (events_of r.machine.events) r.machine.machine e in
+        let entries : length (events_of r'.machine.events).entries ≡ length (events_of r.machine.events).entries = ap (λ (u : State). length (events_of u.events).entries) machine in
+        let within : r.machine.machine.place < length (events_of r.machine.events).entries = slice_get_within (events_of r.machine.events).entries r.machine.machine.place e here in
+        omega (arith, count, place, entries, within)
+    entry_by limit put.Failed same = tt
+
+    pub entry_one : (limit : ℕ) (result : Turn) → Shows w f j.arch.now (Some mark.Arrive) r2 o r' o' result → IsOneTurn limit r r' result
+    entry_one limit result h = subst (IsOneTurn limit r r') (sym h.is) (entry_by limit h.answer h.same)
+
+  -- ---- the repeats of a choice, as a loop
+
+  pub repeat_none : (ch : Choice) (n : ℕ) (j : Job) (r : Going) (o : S) → SoFar w f (repeating (n - 0) ch) (repeating n ch) j r o r o
+  repeat_none ch n j r o = λ c s first told. let is : n - 0 ≡ n = omega arith in (s, told, ap (λ i. repeated i (once ch c) s) is)
+
+  pub repeat_more : (ch : Choice) (m n : ℕ) (j : Job) (r0 r r' : Going) (o0 o o' : S) → m < n → SoFar w f (repeating (n - m) ch) (repeating n ch) j r0 o0 r o → Carries w f (once ch) j r o r' o' turn.Went → SoFar w f (repeating (n - (m + 1)) ch) (repeating n ch) j r0 o0 r' o'
+  repeat_more ch m n j r0 r r' o0 o o' less so_far h = λ c s first told.
+      let now = so_far c s first told in
+      let is : n - m ≡ suc (n - (m + 1)) = omega (arith, less) in
+      (once ch c now.0, h.on c now.0 first now.1, sym (ap (λ i. repeated i (once ch c) now.0) is) ∙ now.2)
+
+  pub repeat_over : (ch : Choice) (m n : ℕ) (j : Job) (r0 r : Going) (o0 o : S) → n ≤ m → SoFar w f (repeating (n - m) ch) (repeating n ch) j r0 o0 r o → Carries w f (repeating n ch) j r0 o0 r o turn.Went
+  repeat_over ch m n j r0 r o0 o over so_far = record {
+    on = λ c s first told.
+        let now = so_far c s first told in
+        let is : n - m ≡ 0 = omega (arith, over) in
+        tells_plan c now.0 (repeating n ch c s) false first j r o (sym (ap (λ i. repeated i (once ch c) now.0) is) ∙ now.2) now.1;
+  }
+
+  -- ---- the choices, as a loop
+
+  pub choose_more : (cs rest : List Choice) (ch : Choice) (left : List Choice) (j : Job) (r0 r r' : Going) (o0 o o' : S) → left ≡ ch ∷ rest → is_finished r.machine.program (events_of r.machine.events) r.machine.machine ≡ false
+      → SoFar w f (choosing left) (choosing cs) j r0 o0 r o → ((c : Course) (s : Planning) (first : S) → Tells w f c s false first j r o → Tells w f c (applying ch c s) false first j r' o') → SoFar w f (choosing rest) (choosing cs) j r0 o0 r' o'
+  choose_more cs rest ch left j r0 r r' o0 o o' is unfinished so_far h = λ c s first told.
+      let now = so_far c s first told in
+      (applying ch c now.0, h c now.0 first now.1, choosing_is ch rest j r r' o o' unfinished c now.0 first now.1 ∙ sym (ap (λ l. choosing l c now.0) is) ∙ now.2)
+
+  pub choose_left : (cs other left : List Choice) (j : Job) (r0 r : Going) (o0 o : S) → left ≡ other → SoFar w f (choosing left) (choosing cs) j r0 o0 r o → SoFar w f (choosing other) (choosing cs) j r0 o0 r o
+  choose_left cs other left j r0 r o0 o is so_far = subst (λ l. SoFar w f (choosing l) (choosing cs) j r0 o0 r o) is so_far
+
+  -- a turn that was passed over, told as one that went
+  pub went_so : (part : Part) (j : Job) (r r' : Going) (o o' : S) → Carries w f part j r o r' o' turn.Passed → Carries w f part j r o r' o' turn.Went
+  went_so part j r r' o o' h = record { on = λ c s first told. (h.on c s first told).0 }
+
+  module _ (cs : List Choice) (i : ℕ) (d : Choice) (j : Job) (r0 r r' : Going) (o0 o o' : S) (less : i < length cs) (unfinished : is_finished r.machine.program (events_of r.machine.events) r.machine.machine ≡ false)
+      (so_far : SoFar w f (choosing (drop i cs)) (choosing cs) j r0 o0 r o) where
+    pub choose_next : Carries w f (applying (slice_index_or cs i d)) j r o r' o' turn.Went → SoFar w f (choosing (drop (i + 1) cs)) (choosing cs) j r0 o0 r' o'
+    choose_next h = choose_more cs (drop (i + 1) cs) (slice_index_or cs i d) (drop i cs) j r0 r r' o0 o o' (drop_is cs i d less) unfinished so_far h.on
+
+    pub choose_stop : (result : Turn) → (result ≡ turn.Went → ⊥) → (result ≡ turn.Passed → ⊥) → Carries w f (applying (slice_index_or cs i d)) j r o r' o' result → Carries w f (choosing cs) j r0 o0 r' o' result
+    choose_stop result not_went not_passed h =
+        composed (choosing (slice_index_or cs i d ∷ drop (i + 1) cs)) (choosing cs) j r0 r r' o0 o o' result
+        (choose_left cs (slice_index_or cs i d ∷ drop (i + 1) cs) (drop i cs) j r0 r o0 o (drop_is cs i d less) so_far) not_passed
+        (choose_exits (slice_index_or cs i d) (drop (i + 1) cs) j r r' o o' unfinished result not_went not_passed h)
+
+  -- ---- a choice that is repeated
+
+  pub go_is : (k n : ℕ) (c : Course) (s : Planning) → repeating n (choice.Go k n) c s ≡ applying (choice.Go k n) c s
+  go_is k n c s = repeated_alike n (once (choice.Go k n) c) (going k c) (λ u. refl) s
+
+  pub see_is : (k n : ℕ) (c : Course) (s : Planning) → repeating n (choice.See k n) c s ≡ applying (choice.See k n) c s
+  see_is k n c s = repeated_alike n (once (choice.See k n) c) (seeing k c) (λ u. refl) s
+
+  pub ev_is : (n : ℕ) (c : Course) (s : Planning) → repeating n (choice.Ev n) c s ≡ applying (choice.Ev n) c s
+  ev_is n c s = repeated_alike n (once (choice.Ev n) c) (entering c) (λ u. refl) s

@@ -1,0 +1,25 @@
+use Rattle.std.proofs.Common.{◌≡◌, ◌<◌, ℕ, List, Bool, Option, Some, length, map, ap, sym, ◌∙◌, subst}
+use Rattle.std.proofs.lemmas.List.{length-map}
+use Rattle.task_code.specs.Policy.{fixed_names}
+use Rattle.task_machine.specs.State.{holds}
+use Rattle.tower_run.specs.Waiting.{busy_in}
+use Rattle.tower_run.proofs.Busy.{busy_length, fixed_within}
+use Rattle.tower_run.proofs.waits.is_wait.Goals as goal
+
+pub pick-requires-clause-ready : goal.pick-requires-clause-ready
+pick-requires-clause-ready c =
+    let m = c.args.machine.now in
+    ap length (c.as_slice.ensures.value ∙ c.note_busy.ensures) ∙ busy_length m ∙ sym (ap length c.requires.rule ∙ length-map m.program.tasks (λ t. t.priority))
+
+pub waits_for_lock-requires : goal.waits_for_lock-requires
+waits_for_lock-requires c =
+    let m = c.args.machine.now in
+    let L : ℕ → Type 0 = λ n. c.in-Some.x < n in
+    subst L (ap length (c.as_slice.ensures.value ∙ c.note_busy.ensures) ∙ busy_length m)
+    (fixed_within c.args.job.now.rule c.as_slice.result.now c.holds.result.now c.args.k c.in-Some.x (sym c.in-Some.ensures))
+
+pub returns-in-Some-clause-busy : goal.returns-in-Some-clause-busy
+returns-in-Some-clause-busy c = ap length c.note_busy.ensures ∙ busy_length c.args.machine.now ∙ sym c.requires.busy
+
+pub returns-in-None-clause-busy : goal.returns-in-None-clause-busy
+returns-in-None-clause-busy c = ap length c.note_busy.ensures ∙ busy_length c.args.machine.now ∙ sym c.requires.busy
