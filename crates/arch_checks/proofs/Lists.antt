@@ -1,5 +1,5 @@
 -- What all elements of a list keep, by recursion, and the greatest of some numbers.
-use Rattle.std.proofs.Common.{inl, inr, ◌≤◌, ℕ, List, [], ◌∷◌, ◌++◌, map, refl, sym, subst, arith}
+use Rattle.std.proofs.Common.{inl, inr, ◌≤◌, ℕ, List, [], ◌∷◌, map, refl, sym, subst, arith}
 use Rattle.arch_types.specs.Outline.{each}
 use Rattle.channel_graph.proofs.Members.{In}
 use Rattle.arch_checks.specs.Sizes.{greatest}

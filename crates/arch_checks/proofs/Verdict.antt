@@ -25,7 +25,7 @@ use Rattle.arch_names.specs.Walk.{first, meant}
 use Rattle.arch_names.proofs.Whole.{clean_is, linked_is, least_is}
 use Rattle.arch_types.specs.declared.fault.TypeFault.{TypeFault}
 use Rattle.arch_types.specs.declared.fault.TypeFault.TheVariants as types_fault
-use Rattle.arch_types.specs.File.{AscendsFile, Offence}
+use Rattle.arch_types.specs.File.{Offence}
 use Rattle.arch_types.specs.Laws.{IsWellTyped, HasFirst}
 use Rattle.arch_types.proofs.Sound.{well_numbered}
 use Rattle.arch_types.proofs.Verdict.{decided, no_memory}
@@ -34,7 +34,7 @@ use Rattle.arch_order.proofs.LinkedOrder.{linked_ascends}
 use Rattle.arch_order.proofs.Handlers.{numbered}
 use Rattle.channel_graph.specs.declared.circuit.CycleFound.{CycleFound}
 use Rattle.channel_graph.specs.Circuit.{shown, IsAcyclic}
-use Rattle.channel_graph.specs.Over.{bound_of, IsOver, NoneOver, StandsBefore}
+use Rattle.channel_graph.specs.Over.{bound_of, IsOver, NoneOver}
 use Rattle.channel_graph.proofs.Acyclic.{shown_none}
 use Rattle.channel_graph.proofs.Chained.{chain_exists}
 use Rattle.arch_checks.specs.declared.fault.What.{What}
@@ -42,11 +42,11 @@ use Rattle.arch_checks.specs.declared.fault.What.TheVariants as what
 use Rattle.arch_checks.specs.declared.fault.Fault.{Fault}
 use Rattle.arch_checks.specs.declared.fault.Fault.TheVariants as fault
 use Rattle.arch_checks.specs.Faults.{of_read, of_name, of_type}
-use Rattle.arch_checks.specs.Limits.{limit, limits, work_limit, order}
+use Rattle.arch_checks.specs.Limits.{limit, work_limit, order}
 use Rattle.arch_checks.specs.Sizes.{Counts, deepest, widest}
 use Rattle.arch_checks.specs.Firsts.{IsBoundFault, IsCycleFault, AreWithin, IsSizeFault, AreCheap, IsWorkFault}
-use Rattle.arch_checks.specs.Offences.{IsNamed, bound_fault, cycle_fault, size_fault, work_fault, Standing, Offends, reads, names, types, bound, cycle, size, work, IsFault, IsAccepted}
-use Rattle.arch_checks.specs.Laws.{Verdict, accepted, refused, ComesTo, IsOnlyVerdict, OneVerdict, MemoryIsNoFault}
+use Rattle.arch_checks.specs.Offences.{IsNamed, bound_fault, cycle_fault, size_fault, work_fault, Standing, Offends, reads, names, types, bound, cycle, size, work, IsFault}
+use Rattle.arch_checks.specs.Laws.{Verdict, accepted, refused, ComesTo, OneVerdict, MemoryIsNoFault}
 use Rattle.arch_checks.proofs.Limited.{what_at, order_at, within_more}
 use Rattle.arch_checks.proofs.Order.{Typed, Bounded, Acyclic, Sized, read_fault, name_fault, type_fault, bound_is_fault, cycle_is_fault, size_is_fault, work_is_fault}
 use Rattle.arch_checks.proofs.Order as ordered
@@ -104,7 +104,7 @@ over_of arch h = elim (search (IsOver arch h) (is_over arch h) (length (handler 
 found_over : (arch : Arch) (h e : ℕ) → IsOver arch h e → (OverOf arch h → ⊥) → ⊥
 found_over arch h e o none = elim (search (IsOver arch h) (is_over arch h) (length (handler arch h).emitters)) [
   | inl found ↦ none found
-  | inr no ↦ none_of arch h no e o
+  | inr other ↦ none_of arch h other e o
 ]
 
 bounds_decided : (arch : Arch) → ((f : Fault) × IsBoundFault arch f) ⊎ NoneOver arch
@@ -113,18 +113,21 @@ bounds_decided arch = elim (search (OverOf arch) (over_of arch) (length arch.han
   | inl found ↦
       let h : ℕ = found.at in
       let e : ℕ = found.here.at in
-      inl (bound_fault arch h e, record {
-        over = record { handler = h; emitter = e; most = saturated (most (handler arch h) e) };
-        first = record {
-          over = found.here.here;
-          count = refl;
-          first = λ k d before o. elim before [
-            | inl earlier ↦ found_over arch k d o (found.before k earlier)
-            | inr same ↦ found.here.before d same.1 (subst (λ x. IsOver arch x d) same.0 o)
-          ];
-        };
-        told = refl;
-      })
+      inl (
+        bound_fault arch h e,
+        record {
+          over = record { handler = h; emitter = e; most = saturated (most (handler arch h) e) };
+          first = record {
+            over = found.here.here;
+            count = refl;
+            first = λ k d before o. elim before [
+              | inl earlier ↦ found_over arch k d o (found.before k earlier)
+              | inr same ↦ found.here.before d same.1 (subst (λ x. IsOver arch x d) same.0 o)
+            ];
+          };
+          told = refl;
+        },
+      )
 ]
 
 cycle_decided : (arch : Arch) → ((f : Fault) × IsCycleFault arch f) ⊎ (shown arch ≡ None)
@@ -175,7 +178,7 @@ work_decided arch = elim (search (λ s. work_limit < cost arch s) dear (length a
     dear s = elim (cases_lt work_limit (cost arch s)) [ inl l ↦ inl l | inr l ↦ inr (λ m. absurd (omega (arith, l, m))) ]
 
     cheap : (s : ℕ) → (work_limit < cost arch s → ⊥) → cost arch s ≤ work_limit
-    cheap s no = elim (cases_lt work_limit (cost arch s)) [ inl l ↦ absurd (no l) | inr l ↦ l ]
+    cheap s never = elim (cases_lt work_limit (cost arch s)) [ inl l ↦ absurd (never l) | inr l ↦ l ]
 
 -- ---- a text
 

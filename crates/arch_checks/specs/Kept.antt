@@ -1,5 +1,5 @@
 -- What each accepted system keeps of the numbers of its text, and of the fields of its records.
-use Rattle.std.specs.Prelude.{ℕ, ◌<◌, All, length}
+use Rattle.std.specs.Prelude.{◌<◌, All, length}
 use Rattle.tower_syntax.specs.Arch.{Arch}
 use Rattle.tower_syntax.specs.Words.{IsBound}
 pub use Rattle.arch_types.specs.Ranged.{IsKind, IsSomeDepth}

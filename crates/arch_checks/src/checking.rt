@@ -33,7 +33,8 @@ pub fn check_raw(alloc: Global, raw: &Raw) -> Result<Checked, Fault>
     Ok(checked)
 }
 
-/// The system of a text, or its first fault.
+/// The system of a text, or its first fault. Each text has exactly one of these, so all else that can be answered is want
+/// of memory.
 pub fn check(alloc: Global, bytes: &[u8]) -> Result<Checked, Fault>
     ensures ok { IfOk result (IsAccepted bytes.now) }
     ensures fault { IfErr result (λ f. (f ≡ Fault.NoMemory) ⊎ IsFault bytes.now f) }

@@ -1,5 +1,5 @@
 -- A checked tree has its handlers by monitor, and its listeners in text order.
-use Rattle.std.proofs.Common.{◌≡◌, ◌∙◌, ℕ, zero, suc, ◌+◌, ◌<◌, ◌≤◌, List, [], ◌∷◌, ◌++◌, map, length, All, refl, sym, ap, subst, arith, append_assoc, append-nil, slice_index_or, length-append}
+use Rattle.std.proofs.Common.{◌≡◌, ◌∙◌, ℕ, zero, suc, ◌+◌, ◌≤◌, List, [], ◌∷◌, ◌++◌, map, length, refl, sym, ap, subst, arith, append_assoc, slice_index_or, length-append}
 use Rattle.std.specs.List.Sorted.{IsNonDecreasingBy}
 use Rattle.std.proofs.lemmas.List.{get_or_at, map-append}
 use Rattle.tower_types.specs.Ty.{Name}
@@ -8,7 +8,7 @@ use Rattle.tower_syntax.specs.declared.arch.Listener.TheVariants as to
 use Rattle.tower_syntax.specs.RawTree.{Link, RawPart, state, handler, RawItem, fields, init, period, signal, channel, output, monitor, Raw}
 use Rattle.tower_syntax.specs.Arch.{Arch, Handler}
 use Rattle.tower_syntax.specs.Graph.{no_handler, no_output}
-use Rattle.arch_types.specs.Outline.{each, output_of, part_listeners, handlers_in, listeners, outline, with_handlers, Written, written_of, handlers_from, handlers_of}
+use Rattle.arch_types.specs.Outline.{each, output_of, part_listeners, handlers_in, listeners, outline, Written, written_of, handlers_from, handlers_of}
 use Rattle.arch_types.specs.File.{AreHandlers, IsChecked}
 use Rattle.arch_types.specs.Listed.{handler_name, listener_names, name_of, IsInFileOrder}
 use Rattle.arch_types.proofs.Lists.{AllOf, all_both, all_more, each_element}
@@ -148,7 +148,7 @@ items_named os hs before other o h (monitor at i ps ∷ items) e l f m =
     let own : map (name_in os hs) (part_listeners h ps) ≡ each handler_name ps = parts_named os hs other (handler_names items) h ps f m in
     let counts : h + handlers_in ps ≡ length (other ++ each handler_name ps) = omega (arith, m, parts_count ps, length-append other (each handler_name ps)) in
     let others : map (name_in os hs) (listeners o (h + handlers_in ps) items) ≡ each listener_names items =
-        items_named os hs before (other ++ each handler_name ps) o (h + handlers_in ps) items e l (f ∙ sym (append_assoc other (each handler_name ps) (handler_names items))) counts in
+    items_named os hs before (other ++ each handler_name ps) o (h + handlers_in ps) items e l (f ∙ sym (append_assoc other (each handler_name ps) (handler_names items))) counts in
     map-append (name_in os hs) (part_listeners h ps) (listeners o (h + handlers_in ps) items) ∙ (λ k. own k ++ others k)
 
 -- the names of the handlers of a checked tree

@@ -1,12 +1,9 @@
 -- A file is well typed, or has a first offence, which is not want of memory.
-use Rattle.std.proofs.Common.{◌≡◌, ◌⊎◌, inl, inr, ℕ, ◌<◌, ◌≤◌, List, Result, Ok, Err, refl, arith}
-use Rattle.tower_syntax.specs.RawTree.{Link, Raw}
+use Rattle.std.proofs.Common.{◌≡◌, ◌⊎◌, inl, inr, ◌<◌, List, Result, Ok, Err, refl, arith}
 use Rattle.tower_syntax.specs.Arch.{Handler}
 use Rattle.arch_types.specs.declared.fault.TypeFault.{TypeFault}
 use Rattle.arch_types.specs.declared.fault.TypeFault.TheVariants as fault
 use Rattle.arch_types.specs.Outline.{outline, with_handlers, handlers_of}
-use Rattle.arch_types.specs.File.{AscendsFile, Offence}
-use Rattle.arch_types.specs.Numbered.{IsNumbered}
 use Rattle.arch_types.specs.Turns.{in_turn, handled}
 use Rattle.arch_types.specs.Laws.{IsWellTyped, HasFirst, TypesAreDecided, NoMemoryIsNoOffence}
 use Rattle.arch_types.proofs.FileRight.{file_clean, file_checked, first_is, offence_inside}

@@ -1,5 +1,5 @@
 -- Where no source reaches a cycle there is a longest walk.
-use Rattle.std.proofs.Common.{◌≡◌, ℕ, zero, suc, ◌+◌, ◌<◌, ◌≤◌, List, [], ◌∷◌, length, Bool, true, false, ◌&&◌, inl, inr, refl, sym, ◌∙◌, subst, arith}
+use Rattle.std.proofs.Common.{◌≡◌, ℕ, zero, suc, ◌≤◌, List, [], ◌∷◌, length, Bool, true, false, ◌&&◌, inl, inr, refl, sym, ◌∙◌, subst, arith}
 use Rattle.std.specs.List.{list_any}
 use Rattle.std.proofs.lemmas.Bool.{false≢true, cases_lt, eq-eqb}
 use Rattle.tower_syntax.specs.declared.arch.On.TheVariants as on
@@ -8,7 +8,6 @@ use Rattle.tower_syntax.specs.Arch.{Arch}
 use Rattle.tower_syntax.specs.Graph.{subs, is_handler, leads, handler_numbers}
 use Rattle.tower_syntax.specs.Weights.{source_numbers}
 use Rattle.tower_syntax.specs.WellNumbered.{AreListeners}
-use Rattle.channel_graph.specs.Circuit.{IsAcyclic}
 use Rattle.channel_graph.specs.Chain.{IsOnSource, LeadsAlong, IsWalk, IsChain}
 use Rattle.channel_graph.specs.Laws.{HasChain, ChainsExist}
 use Rattle.channel_graph.proofs.Members.{In, any_has, has_any, number_below, below_number, contains_from_In, In-from_contains}
@@ -88,8 +87,8 @@ module _ (arch : Arch) (listed : AreListeners arch) where
         let long : length hs ≡ n = omega (arith, more, m) in
         let below = source_handler_below arch h walk.0.source listed walk.0.on in
         let there : has_walk arch n ≡ true =
-            has_any (λ k. starts arch k && goes_on arch n k) (handler_numbers arch) h (below_number (length arch.handlers) h below)
-            (and_true (starts arch h) (goes_on arch n h) (is_start h walk.0) (subst (λ j. goes_on arch j h ≡ true) long (of_rest h hs walk.1))) in
+        has_any (λ k. starts arch k && goes_on arch n k) (handler_numbers arch) h (below_number (length arch.handlers) h below)
+        (and_true (starts arch h) (goes_on arch n h) (is_start h walk.0) (subst (λ j. goes_on arch j h ≡ true) long (of_rest h hs walk.1))) in
         absurd (false≢true (sym none ∙ there))
   ]
 
