@@ -8,3 +8,4 @@ pub mod Puts
 pub mod Worked
 pub mod CheckText
 pub mod FaultText
+pub mod RefusalText

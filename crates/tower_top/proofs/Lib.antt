@@ -1,14 +1,4 @@
-pub mod Ended
-pub mod Few
-pub mod Exact
+pub mod Endings
 pub mod FileFacts
 pub mod InputFacts
-pub mod Quiet
-pub mod RunFacts
-pub mod SmallAccepted
-pub mod SmallFacts
-pub mod SmallNamed
-pub mod SmallSound
-pub mod SmallSpelled
-pub mod TopFacts
-pub mod Turns
+pub mod WordFacts

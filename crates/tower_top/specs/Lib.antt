@@ -1,10 +1,11 @@
-pub mod Answers
+pub mod Calls
+pub mod Check
+pub mod Commands
+pub mod Endings
+pub mod Fetched
 pub mod File
 pub mod Inputs
-pub mod Quiet
-pub mod Small
-pub mod SmallView
+pub mod Requests
 pub mod Status
-pub mod Ticks
+pub mod Top
 pub mod Words
-pub mod Going
