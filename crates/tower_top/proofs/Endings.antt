@@ -151,19 +151,19 @@ memory_stops i shelf err same err_same = record { ends = λ out. record { shelf_
 
 -- ---- choices
 
-pub chosen : {x y : Request} {call : Call} {s : Status} (b : Bool) → b ≡ true → Ends x call s → Ends (choose b x y) call s
-chosen true e h = h
-chosen false e h = absurd (false≢true e)
+pub chosen : (x y : Request) {call : Call} {s : Status} (b : Bool) → b ≡ true → Ends x call s → Ends (choose b x y) call s
+chosen x y true e h = h
+chosen x y false e h = absurd (false≢true e)
 
-pub not_chosen : {x y : Request} {call : Call} {s : Status} (b : Bool) → b ≡ false → Ends y call s → Ends (choose b x y) call s
-not_chosen true e h = absurd (false≢true (sym e))
-not_chosen false e h = h
+pub not_chosen : (x y : Request) {call : Call} {s : Status} (b : Bool) → b ≡ false → Ends y call s → Ends (choose b x y) call s
+not_chosen x y true e h = absurd (false≢true (sym e))
+not_chosen x y false e h = h
 
-pub where_some : {A : Type 0} {next : A → Request} {call : Call} {s : Status} (o : Option A) (x : A) → o ≡ Some x → Ends (next x) call s → Ends (where_given o next) call s
-where_some {A} {next} {call} {s} o x e h = let P : Option A → Type 0 = λ o. Ends (where_given o next) call s in subst P (sym e) h
+pub where_some : {A : Type 0} (next : A → Request) {call : Call} {s : Status} (o : Option A) (x : A) → o ≡ Some x → Ends (next x) call s → Ends (where_given o next) call s
+where_some {A} next {call} {s} o x e h = let P : Option A → Type 0 = λ o. Ends (where_given o next) call s in subst P (sym e) h
 
-pub where_none : {A : Type 0} {next : A → Request} {call : Call} {s : Status} (o : Option A) → o ≡ None → Ends no_command call s → Ends (where_given o next) call s
-where_none {A} {next} {call} {s} o e h = let P : Option A → Type 0 = λ o. Ends (where_given o next) call s in subst P (sym e) h
+pub where_none : {A : Type 0} (next : A → Request) {call : Call} {s : Status} (o : Option A) → o ≡ None → Ends no_command call s → Ends (where_given o next) call s
+where_none {A} next {call} {s} o e h = let P : Option A → Type 0 = λ o. Ends (where_given o next) call s in subst P (sym e) h
 
 -- memory was wanting
 pub lacks_memory : (request : Request) (call : Call) → IsSame call.shelf → IsSame call.out → IsSame call.err → Ends request call NoMemory

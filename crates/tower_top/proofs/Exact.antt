@@ -1,6 +1,6 @@
 -- Inputs whose text has one value or one fault, and requests that have one answer.
 use Rattle.std.proofs.Common.{◌≡◌, ◌<◌, ℕ, List, [], inl, inr, ◌⊎◌, ⊎_elim, Option, Some, None, Bool, true, false, refl, sym, ap, subst, ◌∙◌, arith}
-use Rattle.std.specs.Prelude.{IfSome, IsSome}
+use Rattle.std.specs.Prelude.{IfSome, IsSome, bytes_eq}
 use Rattle.std.proofs.lemmas.Bool.{false≢true}
 use Rattle.tower_io.specs.Faults.{Rose}
 use Rattle.tower_report.specs.Bytes.{Bytes}
@@ -96,3 +96,7 @@ where_given_exact (Some x) next h = h x
 
 pub asked_of_exact : (c : Command) (g : Given) → IsExact (c.request g) → IsExact (asked_of c g)
 asked_of_exact c g h = choose_exact (has_only c.options g) (c.request g) no_command h tt
+
+-- where the words name the command
+pub asked_by_exact : (c : Command) (g : Given) (other : Request) → IsExact (c.request g) → IsExact other → IsExact (asked_by c g other)
+asked_by_exact c g other h k = choose_exact (bytes_eq g.command c.name) (asked_of c g) other (asked_of_exact c g h) k

@@ -5,6 +5,7 @@ pub mod Endings
 pub mod Fetched
 pub mod File
 pub mod Inputs
+pub mod Laws
 pub mod Requests
 pub mod Status
 pub mod Top

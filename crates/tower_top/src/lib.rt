@@ -4,6 +4,7 @@
 mod check;
 mod fetched;
 mod file;
+pub mod laws;
 mod status;
 mod top;
 mod usage;

@@ -1,0 +1,18 @@
+//! What holds of every call. Each law is the contract of a function that does nothing.
+ghost use Rattle.tower_top.specs.Laws.{OneAnswer, DueComes, AnswersAreDue};
+
+/// Where the shelf tells the texts that are to be read, at most one status is due, with its texts.
+pub fn one_answer_is_due()
+    ensures { OneAnswer }
+{}
+
+/// Where no count of faults rose and the shelf tells the texts that are to be read, what is due comes: the status, and
+/// its texts whole; or memory was wanting.
+pub fn what_is_due_comes()
+    ensures { DueComes }
+{}
+
+/// Where all inputs are valid, the command's answer is due.
+pub fn answers_are_due()
+    ensures { AnswersAreDue }
+{}
