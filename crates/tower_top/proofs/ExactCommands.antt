@@ -1,26 +1,31 @@
 -- Each command has one answer.
-use Rattle.std.proofs.Common.{ℕ, List, ◌∙◌, ap, sym}
-use Rattle.arch_checks.proofs.Accepted.{one_system, one_fault, not_both}
-use Rattle.tower_report.specs.FaultText.{fault_line}
-use Rattle.tower_top.specs.Inputs.{file_input}
-use Rattle.tower_top.specs.Requests.{no_command}
+use Rattle.std.proofs.Common.{ℕ, List, [], Option, Some, None}
+use Rattle.tower_syntax.specs.declared.event.Choice.{Choice}
+use Rattle.tower_top.specs.Commands.{asked_by, where_given}
+use Rattle.tower_top.specs.Requests.{Request, no_command, answers}
 use Rattle.tower_top.specs.Top.{asked, request_of}
 use Rattle.tower_top.specs.Check.{check}
-use Rattle.tower_top.specs.Words.{Given, given_by}
-use Rattle.tower_top.proofs.Exact.{IsExact, IsExactInput, asked_by_exact, where_given_exact}
-
-file_exact : (name : List ℕ) → IsExactInput (file_input name)
-file_exact name = record {
-  value = one_system;
-  fault = λ text l m a b. a.2 ∙ ap fault_line (one_fault text a.0 b.0 a.1 b.1) ∙ sym b.2;
-  never = λ text v l a b. not_both text v b.0 a b.1;
-}
+use Rattle.tower_top.specs.Run.{run, run_request, with_choices, limit_of, status_of, text_of}
+use Rattle.tower_top.specs.Words.{Text, Given, given_by}
+use Rattle.tower_top.proofs.Exact.{IsExact, asked_by_exact, where_given_exact}
+use Rattle.tower_top.proofs.ExactInputs.{file_exact, record_exact, choices_exact}
 
 check_exact : (g : Given) → IsExact (check.request g)
 check_exact g = (file_exact g.file, λ v. tt)
 
+with_choices_exact : (name : Option Text) (next : List Choice → Request) → ((cs : List Choice) → IsExact (next cs)) → IsExact (with_choices name next)
+with_choices_exact None next h = h []
+with_choices_exact (Some name) next h = (choices_exact name, h)
+
+run_exact : (g : Given) → IsExact (run.request g)
+run_exact g =
+    where_given_exact g.record_name (λ name. where_given (limit_of g.steps) (λ limit. run_request g.file name g.choices_name limit))
+    (λ name. where_given_exact (limit_of g.steps) (λ limit. run_request g.file name g.choices_name limit)
+    (λ limit. (file_exact g.file, λ arch. (record_exact arch name, λ events.
+    with_choices_exact g.choices_name (λ cs. answers (status_of arch events cs limit) (text_of arch events cs limit)) (λ cs. tt)))))
+
 asked_exact : (g : Given) → IsExact (asked g)
-asked_exact g = asked_by_exact check g no_command (check_exact g) tt
+asked_exact g = asked_by_exact check g (asked_by run g no_command) (check_exact g) (asked_by_exact run g no_command (run_exact g) tt)
 
 pub request_exact : (words : List (List ℕ)) → IsExact (request_of words)
 unfolding request_of

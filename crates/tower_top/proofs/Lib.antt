@@ -1,6 +1,9 @@
 pub mod Endings
 pub mod Exact
 pub mod ExactCommands
+pub mod ExactInputs
+pub mod Fetching
 pub mod FileFacts
 pub mod InputFacts
+pub mod RunFacts
 pub mod WordFacts

@@ -1,12 +1,15 @@
 pub mod Calls
 pub mod Check
+pub mod ChoicesInput
 pub mod Commands
 pub mod Endings
 pub mod Fetched
 pub mod File
 pub mod Inputs
 pub mod Laws
+pub mod RecordInput
 pub mod Requests
+pub mod Run
 pub mod Status
 pub mod Top
 pub mod Words

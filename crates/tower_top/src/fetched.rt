@@ -10,3 +10,6 @@ pub enum Fetched<T, W> {
     Unread,
     NoMemory,
 }
+
+/// The greatest length in bytes of an input that is no file of the language.
+pub const TEXT_LIMIT: usize = 16_777_216;

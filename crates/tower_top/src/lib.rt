@@ -2,9 +2,12 @@
 #![tactic(auto)]
 
 mod check;
+mod choices;
+mod events;
 mod fetched;
 mod file;
 pub mod laws;
+mod run;
 mod status;
 mod top;
 mod usage;

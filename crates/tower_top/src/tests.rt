@@ -25,12 +25,25 @@ const FLIGHT_CHECK: &str =
 const CLOCK_CHECK: &str =
     "tower clock\nrecords 0 sources 1 channels 0 outputs 0 monitors 1 handlers 1\ncost beat 216\nmemory 132\ncode 216\nok\n";
 
+/// The run of `clock` over 25 ticks, stopped before its first instruction, and before its second.
+const NO_STEP: &str =
+    "0 a\n0 a\n0 a\n0 a\n0 a\n0 a\n0 a\n0 a\n0 a\n0 a\nstate count n 0\ncount 0\nstopped\n";
+
+const ONE_STEP: &str =
+    "0 a\n0 a\n0 a\n0 a\n0 a\n0 a\n0 a\n0 a\n0 a\n0 a\n1 s beat\nstate count n 0\ncount 1\nstopped\n";
+
 const USAGE: &str = "usage: towerc COMMAND FILE [OPTIONS]\n";
 
-/// A shelf with these files, of which one is not closed.
+/// A shelf with these files, of which one is not closed, with records and choices, of which some are none.
 fn shelf(alloc: Global, fails: &[u64]) -> Result<MemShelf, AllocError> {
     let mut files = Vec::new(alloc);
-    for (name, text) in [("clock", CLOCK), ("open", "(tower a")] {
+    for (name, text) in [
+        ("clock", CLOCK),
+        ("open", "(tower a"),
+        ("ticks", "tick 25"),
+        ("none", "tick 1\ntick 0"),
+        ("no_choice", "go"),
+    ] {
         files.push((
             String::from_str(alloc, name)?,
             Vec::from_slice(alloc, text.as_bytes())?,
@@ -51,7 +64,7 @@ fn words(alloc: Global, line: &str) -> Result<Vec<String>, AllocError> {
 }
 
 /// Each line of words with its status and what it writes on `out` and on `err`.
-const ANSWERS: [(&str, Status, &str, &str); 16] = [
+const ANSWERS: [(&str, Status, &str, &str); 30] = [
     ("towerc check clock", Status::Done, CLOCK_CHECK, ""),
     (
         "towerc check open",
@@ -83,6 +96,80 @@ const ANSWERS: [(&str, Status, &str, &str); 16] = [
     ("towerc check -h", Status::Usage, "", USAGE),
     ("towerc help check", Status::Usage, "", USAGE),
     ("towerc check -- clock", Status::Done, CLOCK_CHECK, ""),
+    (
+        "towerc run clock --record ticks --steps 0",
+        Status::Stopped,
+        NO_STEP,
+        "",
+    ),
+    (
+        "towerc --steps=1 run --record ticks clock",
+        Status::Stopped,
+        ONE_STEP,
+        "",
+    ),
+    (
+        "towerc run open --record absent",
+        Status::Refused,
+        "",
+        "refused: unclosed 0\n",
+    ),
+    (
+        "towerc run clock --record absent",
+        Status::ReadFault,
+        "",
+        "cannot read absent\n",
+    ),
+    (
+        "towerc run clock --record none --choices absent",
+        Status::BadInput,
+        "",
+        "bad record 2 line\n",
+    ),
+    (
+        "towerc run clock --record ticks --choices absent",
+        Status::ReadFault,
+        "",
+        "cannot read absent\n",
+    ),
+    (
+        "towerc run clock --record ticks --choices no_choice",
+        Status::BadInput,
+        "",
+        "bad choices 1 line\n",
+    ),
+    ("towerc run clock", Status::Usage, "", USAGE),
+    ("towerc run clock --record", Status::Usage, "", USAGE),
+    (
+        "towerc run clock --record ticks --order ticks",
+        Status::Usage,
+        "",
+        USAGE,
+    ),
+    (
+        "towerc run clock --record ticks --steps 007",
+        Status::Usage,
+        "",
+        USAGE,
+    ),
+    (
+        "towerc run clock --record ticks --steps 1000000001",
+        Status::Usage,
+        "",
+        USAGE,
+    ),
+    (
+        "towerc run clock --record ticks --record ticks",
+        Status::Usage,
+        "",
+        USAGE,
+    ),
+    (
+        "towerc run clock --record ticks --steps -1",
+        Status::Usage,
+        "",
+        USAGE,
+    ),
 ];
 
 #[test]

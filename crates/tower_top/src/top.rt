@@ -6,6 +6,7 @@ ghost use Rattle.tower_top.specs.Top.{asked, request_of};
 ghost use Rattle.tower_top.specs.Words.{given_of};
 
 use crate::check::check;
+use crate::run::run;
 use crate::status::Status;
 use crate::usage::usage;
 use crate::words::{Given, read_words};
@@ -29,13 +30,17 @@ fn carry_out<F: Shelf, O: Sink, E: Sink>(
     if given.command == "check" {
         return check(alloc, given, shelf, out, err);
     }
+    if given.command == "run" {
+        return run(alloc, given, shelf, out, err);
+    }
     usage(err)
 }
 
 /// Carries out what the words ask for. The first word is the program's name. The inputs come from the shelf, the text
 /// goes to `out`, and the one line that tells of a fault to `err`.
 ///
-/// `check FILE` tells what an accepted file has and what it weighs.
+/// `check FILE` tells what an accepted file has and what it weighs. `run FILE --record NAME` runs its program over a
+/// record, by the choices of `--choices NAME` where they are given, for at most as many instructions as `--steps N` says.
 /// After `WriteFault` a first part of what was due was written on each sink. After `Done`, `Stopped` and `No` the
 /// command's text was written whole on `out`; after any other answer nothing was written there, and after `NoMemory`
 /// nothing at all.
