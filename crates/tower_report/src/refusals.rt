@@ -27,8 +27,5 @@ pub fn put_bad<E: Sink>(err: &mut E, input: &str, at: u32, kind: &str) -> Put
 {
     let mut buffer = Buffer::new();
     let number = buffer.format(at).as_bytes();
-    answer(put_line(
-        err,
-        &[b"bad", input.as_bytes(), number, kind.as_bytes()],
-    ))
+    answer(put_line(err, &[b"bad", input.as_bytes(), number, kind.as_bytes()]))
 }

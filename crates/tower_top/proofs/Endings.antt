@@ -109,7 +109,7 @@ pub went_on : {i : Input} {next : i.Value → Request} {v : i.Value} (shelf : Ch
     → Ends (reads i next) (record { shelf = record { before = shelf.before; after = call.shelf.after }; out = call.out; err = record { before = err.before; after = call.err.after } }) s
 went_on {i} {next} {v} shelf err call {s} has shelf_same err_same shelf_is err_is ends =
     let P : ShelfTold → SinkTold → Type 0 = λ a b.
-        Ends (next v) (record { shelf = record { before = a; after = call.shelf.after }; out = call.out; err = record { before = b; after = call.err.after } }) s in
+    Ends (next v) (record { shelf = record { before = a; after = call.shelf.after }; out = call.out; err = record { before = b; after = call.err.after } }) s in
     let joined : P shelf.before err.before = subst (λ (a : ShelfTold). P a err.before) (shelf_is ∙ shelf_same) (subst (λ (b : SinkTold). P call.shelf.before b) (err_is ∙ err_same) ends) in
     record { ends = ends_more (prospect shelf.before.held (next v)) (prospect shelf.before.held (reads i next)) _ (λ s o e h. inr (v, has, h)) (λ n h. inr (v, has, h)) s joined.ends }
 

@@ -22,9 +22,9 @@ pub fn check<F: Shelf, O: Sink, E: Sink>(
     err: &mut E,
 ) -> Status
     ensures { Ends (asked_of command.check (given_of given.now)) (record {
-        shelf = shelf_change F.held F.blamed F.faults shelf.old shelf.new;
-        out = sink_change O.written O.faults out.old out.new;
-        err = sink_change E.written E.faults err.old err.new
+      shelf = shelf_change F.held F.blamed F.faults shelf.old shelf.new;
+      out = sink_change O.written O.faults out.old out.new;
+      err = sink_change E.written E.faults err.old err.new;
     }) result }
 {
     if !given.has_only(Options::NONE) {

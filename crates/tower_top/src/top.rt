@@ -22,9 +22,9 @@ fn carry_out<F: Shelf, O: Sink, E: Sink>(
     err: &mut E,
 ) -> Status
     ensures { Ends (asked (given_of given.now)) (record {
-        shelf = shelf_change F.held F.blamed F.faults shelf.old shelf.new;
-        out = sink_change O.written O.faults out.old out.new;
-        err = sink_change E.written E.faults err.old err.new
+      shelf = shelf_change F.held F.blamed F.faults shelf.old shelf.new;
+      out = sink_change O.written O.faults out.old out.new;
+      err = sink_change E.written E.faults err.old err.new;
     }) result }
 {
     if given.command == "check" {
@@ -52,9 +52,9 @@ pub fn tower<F: Shelf, O: Sink, E: Sink>(
     err: &mut E,
 ) -> Status
     ensures { Ends (request_of (map string_bytes words.now)) (record {
-        shelf = shelf_change F.held F.blamed F.faults shelf.old shelf.new;
-        out = sink_change O.written O.faults out.old out.new;
-        err = sink_change E.written E.faults err.old err.new
+      shelf = shelf_change F.held F.blamed F.faults shelf.old shelf.new;
+      out = sink_change O.written O.faults out.old out.new;
+      err = sink_change E.written E.faults err.old err.new;
     }) result }
 {
     match read_words(alloc, words) {
