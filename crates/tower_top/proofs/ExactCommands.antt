@@ -21,8 +21,14 @@ run_exact : (g : Given) → IsExact (run.request g)
 run_exact g =
     where_given_exact g.record_name (λ name. where_given (limit_of g.steps) (λ limit. run_request g.file name g.choices_name limit))
     (λ name. where_given_exact (limit_of g.steps) (λ limit. run_request g.file name g.choices_name limit)
-    (λ limit. (file_exact g.file, λ arch. (record_exact arch name, λ events.
-    with_choices_exact g.choices_name (λ cs. answers (status_of arch events cs limit) (text_of arch events cs limit)) (λ cs. tt)))))
+    (λ limit. (
+      file_exact g.file,
+      λ arch. (
+        record_exact arch name,
+        λ events.
+            with_choices_exact g.choices_name (λ cs. answers (status_of arch events cs limit) (text_of arch events cs limit)) (λ cs. tt),
+      ),
+    )))
 
 asked_exact : (g : Given) → IsExact (asked g)
 asked_exact g = asked_by_exact check g (asked_by run g no_command) (check_exact g) (asked_by_exact run g no_command (run_exact g) tt)

@@ -29,7 +29,7 @@ record_exact arch name = record {
   fault = λ text l m a b.
       let same = (records_law arch text).one_fault a.at b.at a.kind b.kind a.fault b.fault in
       let line : bad_line (codes "record") a.at (records.kind_text a.kind) ≡ bad_line (codes "record") b.at (records.kind_text b.kind) =
-          λ i. bad_line (codes "record") (same.0 i) (records.kind_text (same.1 i)) in
+      λ i. bad_line (codes "record") (same.0 i) (records.kind_text (same.1 i)) in
       a.tells ∙ line ∙ sym b.tells;
   never = λ text v l a b. (records_law arch text).not_both v.entries b.at b.kind a.entries b.fault;
 }
@@ -40,7 +40,7 @@ choices_exact name = record {
   fault = λ text l m a b.
       let same = (choices_law text).one_fault a.at b.at a.kind b.kind a.fault b.fault in
       let line : bad_line (codes "choices") a.at (choices.kind_text a.kind) ≡ bad_line (codes "choices") b.at (choices.kind_text b.kind) =
-          λ i. bad_line (codes "choices") (same.0 i) (choices.kind_text (same.1 i)) in
+      λ i. bad_line (codes "choices") (same.0 i) (choices.kind_text (same.1 i)) in
       a.tells ∙ line ∙ sym b.tells;
   never = λ text v l a b. (choices_law text).not_both v b.at b.kind a b.fault;
 }

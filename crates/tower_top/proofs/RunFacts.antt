@@ -51,7 +51,7 @@ module _ {T : Type 0} (items : T → List Choice) (next : List Choice → Reques
       → Ends (with_choices name next) (record { shelf = record { before = shelf.before; after = call.shelf.after }; out = call.out; err = record { before = err.before; after = call.err.after } }) s
   chose None shelf err call {s} x is shelf_is err_is ends =
       let P : List Choice → ShelfTold → SinkTold → Type 0 = λ cs a b.
-          Ends (next cs) (record { shelf = record { before = a; after = call.shelf.after }; out = call.out; err = record { before = b; after = call.err.after } }) s in
+      Ends (next cs) (record { shelf = record { before = a; after = call.shelf.after }; out = call.out; err = record { before = b; after = call.err.after } }) s in
       subst (λ (cs : List Choice). P cs shelf.before err.before) is.0
       (subst (λ (a : ShelfTold). P (items x) a err.before) (shelf_is ∙ is.1) (subst (λ (b : SinkTold). P (items x) call.shelf.before b) (err_is ∙ is.2) ends))
   chose (Some name) shelf err call x is shelf_is err_is ends = went_on shelf err call is.0 is.1 is.2 shelf_is err_is ends

@@ -67,9 +67,9 @@ pub fn run<F: Shelf, O: Sink, E: Sink>(
     err: &mut E,
 ) -> Status
     ensures { Ends (asked_of command.run (given_of given.now)) (record {
-        shelf = shelf_change F.held F.blamed F.faults shelf.old shelf.new;
-        out = sink_change O.written O.faults out.old out.new;
-        err = sink_change E.written E.faults err.old err.new
+      shelf = shelf_change F.held F.blamed F.faults shelf.old shelf.new;
+      out = sink_change O.written O.faults out.old out.new;
+      err = sink_change E.written E.faults err.old err.new;
     }) result }
 {
     if !given.has_only(OPTIONS) {
@@ -99,5 +99,14 @@ pub fn run<F: Shelf, O: Sink, E: Sink>(
         Ok(program) => program,
         Err(_) => return Status::NoMemory,
     };
-    status_of(run_program(alloc, &file, program, events, choices.as_slice(), limit, out, None))
+    status_of(run_program(
+        alloc,
+        &file,
+        program,
+        events,
+        choices.as_slice(),
+        limit,
+        out,
+        None,
+    ))
 }

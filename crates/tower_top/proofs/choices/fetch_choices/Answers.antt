@@ -24,19 +24,23 @@ returns-in-NoMemory g c =
 pub returns-in-Ok : goal.returns-in-Ok
 returns-in-Ok g c =
     let e = c.in-Done.ensures in
-    let same = c.as_slice.ensures.value in
-    (record {
-      text = c.fetch.new.out.items;
-      is_held = told _ _ e.text;
-      is = subst (λ t. SpellsChoices t c.in-Ok.choices.items) same c.in-Ok.ensures.ok;
-    }, shelf_same g.F.Shelf.held g.F.Shelf.blamed g.F.Shelf.faults c.args.shelf.now c.fetch.new.shelf e.holds e.blames_none e.calm)
+    let same = c.as_slice.ensures.value in (
+      record {
+        text = c.fetch.new.out.items;
+        is_held = told _ _ e.text;
+        is = subst (λ t. SpellsChoices t c.in-Ok.choices.items) same c.in-Ok.ensures.ok;
+      },
+      shelf_same g.F.Shelf.held g.F.Shelf.blamed g.F.Shelf.faults c.args.shelf.now c.fetch.new.shelf e.holds e.blames_none e.calm,
+    )
 
 pub returns-in-Err-At : goal.returns-in-Err-At
 returns-in-Err-At g c =
     let e = c.in-Done.ensures in
-    let same = c.as_slice.ensures.value in
-    (record {
-      text = c.fetch.new.out.items;
-      is_held = told _ _ e.text;
-      is = subst (λ t. IsChoiceFault t (fault.At c.in-Err-At.line c.in-Err-At.kind)) same (rw c.in-Err-At.field-0-is at c.in-Err-At.ensures.fault);
-    }, shelf_same g.F.Shelf.held g.F.Shelf.blamed g.F.Shelf.faults c.args.shelf.now c.fetch.new.shelf e.holds e.blames_none e.calm)
+    let same = c.as_slice.ensures.value in (
+      record {
+        text = c.fetch.new.out.items;
+        is_held = told _ _ e.text;
+        is = subst (λ t. IsChoiceFault t (fault.At c.in-Err-At.line c.in-Err-At.kind)) same (rw c.in-Err-At.field-0-is at c.in-Err-At.ensures.fault);
+      },
+      shelf_same g.F.Shelf.held g.F.Shelf.blamed g.F.Shelf.faults c.args.shelf.now c.fetch.new.shelf e.holds e.blames_none e.calm,
+    )

@@ -25,19 +25,23 @@ returns-in-NoMemory g c =
 pub returns-in-Ok : goal.returns-in-Ok
 returns-in-Ok g c =
     let e = c.in-Done.ensures in
-    let same = c.as_slice.ensures.value in
-    (record {
-      text = c.fetch.new.out.items;
-      is_held = told _ _ e.text;
-      is = (subst (λ t. SpellsRecord c.args.file.now t (events_of c.in-Ok.events)) same c.in-Ok.ensures.ok, c.in-Ok.ensures.fit);
-    }, shelf_same g.F.Shelf.held g.F.Shelf.blamed g.F.Shelf.faults c.args.shelf.now c.fetch.new.shelf e.holds e.blames_none e.calm)
+    let same = c.as_slice.ensures.value in (
+      record {
+        text = c.fetch.new.out.items;
+        is_held = told _ _ e.text;
+        is = (subst (λ t. SpellsRecord c.args.file.now t (events_of c.in-Ok.events)) same c.in-Ok.ensures.ok, c.in-Ok.ensures.fit);
+      },
+      shelf_same g.F.Shelf.held g.F.Shelf.blamed g.F.Shelf.faults c.args.shelf.now c.fetch.new.shelf e.holds e.blames_none e.calm,
+    )
 
 pub returns-in-Err-At : goal.returns-in-Err-At
 returns-in-Err-At g c =
     let e = c.in-Done.ensures in
-    let same = c.as_slice.ensures.value in
-    (record {
-      text = c.fetch.new.out.items;
-      is_held = told _ _ e.text;
-      is = subst (λ t. IsRecordFault c.args.file.now t (fault.At c.in-Err-At.line c.in-Err-At.kind)) same (rw c.in-Err-At.field-0-is at c.in-Err-At.ensures.fault);
-    }, shelf_same g.F.Shelf.held g.F.Shelf.blamed g.F.Shelf.faults c.args.shelf.now c.fetch.new.shelf e.holds e.blames_none e.calm)
+    let same = c.as_slice.ensures.value in (
+      record {
+        text = c.fetch.new.out.items;
+        is_held = told _ _ e.text;
+        is = subst (λ t. IsRecordFault c.args.file.now t (fault.At c.in-Err-At.line c.in-Err-At.kind)) same (rw c.in-Err-At.field-0-is at c.in-Err-At.ensures.fault);
+      },
+      shelf_same g.F.Shelf.held g.F.Shelf.blamed g.F.Shelf.faults c.args.shelf.now c.fetch.new.shelf e.holds e.blames_none e.calm,
+    )

@@ -90,8 +90,8 @@ returns g c =
     let limit = c.in-Some-limit_of.limit in
     let program = c.in-Ok-build.program in
     let ends : RunEnds w f c.args.out.now c.run_program.new.out (run_text arch program events choices limit None) (run_stops program events choices limit None) c.run_program.result =
-        subst (λ (cs : List Choice). RunEnds w f c.args.out.now c.run_program.new.out (run_text arch program events cs limit None) (run_stops program events cs limit None) c.run_program.result)
-        c.as_slice.ensures.value c.run_program.ensures.ends in
+    subst (λ (cs : List Choice). RunEnds w f c.args.out.now c.run_program.new.out (run_text arch program events cs limit None) (run_stops program events cs limit None) c.run_program.result)
+    c.as_slice.ensures.value c.run_program.ensures.ends in
     let next : List Choice → Request = λ cs. answers (command.status_of arch events cs limit) (command.text_of arch events cs limit) in
     rw c.status_of.ensures
     (asks (given_of c.args.given.now) c.in-Some.name.now limit has (ap (option_map (λ s. s.now)) c.in-Some.is) (sym c.in-Some-limit_of.ensures.value)
