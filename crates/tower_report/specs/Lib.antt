@@ -11,3 +11,4 @@ pub mod WorkedRuns
 pub mod CheckText
 pub mod FaultText
 pub mod WorkedFaults
+pub mod RefusalText

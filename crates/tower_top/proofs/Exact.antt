@@ -1,38 +1,102 @@
--- A file with a fault is never answered as an accepted one, nor the other way round.
-use Rattle.std.proofs.Common.{◌≡◌, ℕ, List, [], inl, inr, length, get_or, Option, Some, sym, ap, ◌∙◌, subst, arith}
-use Rattle.std.specs.Prelude.{IfSome}
-use Rattle.arch_checks.specs.declared.fault.Fault.{Fault}
-use Rattle.arch_checks.specs.Offences.{IsFault, IsAccepted}
-use Rattle.tower_syntax.specs.Arch.{Arch}
-use Rattle.tower_top.specs.declared.status.Status.TheVariants as status
-use Rattle.tower_top.specs.Words.{AsksCheck, AsksWith}
-use Rattle.tower_top.specs.Answers.{Held, IsHeld, IsDue, refused, checks, not_yet, runs}
+-- Inputs whose text has one value or one fault, and requests that have one answer.
+use Rattle.std.proofs.Common.{◌≡◌, ◌<◌, ℕ, List, [], inl, inr, ◌⊎◌, ⊎_elim, Option, Some, None, Bool, true, false, refl, sym, ap, subst, ◌∙◌, arith}
+use Rattle.std.specs.Prelude.{IfSome, IsSome, bytes_eq}
+use Rattle.std.proofs.lemmas.Bool.{false≢true}
+use Rattle.tower_io.specs.Faults.{Rose}
+use Rattle.tower_report.specs.Bytes.{Bytes}
+use Rattle.tower_top.specs.declared.status.Status.{Status}
+use Rattle.tower_top.specs.declared.status.Status.TheVariants.{Done, Refused, Usage, ReadFault, WriteFault, NoMemory, BadInput, Stopped, No}
+use Rattle.tower_top.specs.Calls.{Held, IsHeld, ShelfTold, SinkTold, Change, Call, IsSame, HasRisen, Gets, GetsPart, FailsAt}
+use Rattle.tower_top.specs.Requests.{Input, Request, no_command, reads, answers, HasRead, HasFault, IsDue, IsDueNow, TellsAll, IsAnswer, HasAnswer}
+use Rattle.tower_top.specs.Endings.{Prospect, Answers, FailsToRead, FailsToWrite, LacksMemory, EndsAs, prospect, Ends}
+use Rattle.tower_top.specs.Commands.{Command, choose, where_given, asked_of, asked_by}
+use Rattle.tower_top.specs.Words.{Given, has_only}
+use Rattle.tower_top.specs.Laws.{HasNoFault, Comes}
 
-pub same_file : (words : List (List ℕ)) (a b : List ℕ) → AsksWith words a → AsksWith words b → a ≡ b
-same_file words a b (inl x) (inl y) = ap (λ ws. get_or ws 2 []) (sym x.are ∙ y.are)
-same_file words a b (inl x) (inr y) = absurd (omega (arith, ap length (sym x.are ∙ y.1.are)))
-same_file words a b (inr x) (inl y) = absurd (omega (arith, ap length (sym x.1.are ∙ y.are)))
-same_file words a b (inr x) (inr y) = ap (λ ws. get_or ws 2 []) (sym x.1.are ∙ y.1.are)
+-- a text has at most one value, or else at most one fault
+pub record IsExactInput (i : Input) : Type 0 where
+  pub value : (text : List ℕ) (v w : i.Value) → i.IsValid text v → i.IsValid text w → v ≡ w
+  pub fault : (text : List ℕ) (l m : Bytes) → i.IsWrong text l → i.IsWrong text m → l ≡ m
+  pub never : (text : List ℕ) (v : i.Value) (l : Bytes) → i.IsValid text v → i.IsWrong text l → ⊥
 
-pub told_text : (o : Option (List ℕ)) (text t : List ℕ) → o ≡ Some text → IfSome o (λ told. told ≡ t) → text ≡ t
-told_text o text t e h = rw e at h
+abbrev pub IsExact : Request → Type 0
+IsExact no_command = Unit {0}
+IsExact (reads i next) = IsExactInput i × ((v : i.Value) → IsExact (next v))
+IsExact (answers s text) = Unit {0}
 
-pub not_both : (text : List ℕ) (arch : Arch) (f : Fault) → IsFault text f → IsAccepted text arch → ⊥
-not_both text arch f wrong accepted = accepted.clean wrong.at f wrong.offends
+-- two texts that are told are one
+one_text : (o : Option (List ℕ)) (x y : List ℕ) → IsSome o → IfSome o (λ t. t ≡ x) → IfSome o (λ t. t ≡ y) → x ≡ y
+one_text None x y some a b = absurd (false≢true some)
+one_text (Some t) x y some a b = sym a ∙ b
 
-module _ (held : Held) (words : List (List ℕ)) (file text : List ℕ) (f : Fault) (asks : AsksWith words file) (told : held file ≡ Some text) (wrong : IsFault text f) where
-  never_accepted : (a t : List ℕ) (arch : Arch) → AsksWith words a → IsHeld held a t → IsAccepted t arch → ⊥
-  never_accepted a t arch names is accepted =
-      let here : IsHeld held file t = subst (λ n. IsHeld held n t) (same_file words a file names asks) is in
-      not_both t arch f (subst (λ x. IsFault x f) (told_text (held file) text t told here) wrong) accepted
+module _ (held : Held) (i : Input) (is : IsExactInput i) (tells : IsSome (held i.name)) where
+  one_value : (v w : i.Value) → HasRead held i v → HasRead held i w → v ≡ w
+  one_value v w a b =
+      is.value a.text v w a.valid (subst (λ t. i.IsValid t w) (one_text (held i.name) b.text a.text tells b.is_held a.is_held) b.valid)
 
-  pub never_done : (out err : List ℕ) → IsDue held words status.Done out err → ⊥
-  never_done out err (checks a t arch names is accepted) = never_accepted a t arch (inl names) is accepted
-  never_done out err (runs a name t r arch s n names is accepted small record_is ticks) = never_accepted a t arch (inr (name, names)) is accepted
+  one_fault : (l m : Bytes) → HasFault held i l → HasFault held i m → l ≡ m
+  one_fault l m a b =
+      is.fault a.text l m a.wrong (subst (λ t. i.IsWrong t m) (one_text (held i.name) b.text a.text tells b.is_held a.is_held) b.wrong)
 
-module _ (held : Held) (words : List (List ℕ)) (file text : List ℕ) (arch : Arch) (asks : AsksCheck words file) (told : held file ≡ Some text) (accepted : IsAccepted text arch) where
-  pub never_refused : (out err : List ℕ) → IsDue held words status.Refused out err → ⊥
-  never_refused out err (refused a t f names is wrong) =
-      let here : IsHeld held file t = subst (λ n. IsHeld held n t) (same_file words a file names (inl asks)) is in
-      not_both text arch f (subst (λ x. IsFault x f) (sym (told_text (held file) text t told here)) wrong) accepted
-  never_refused out err (not_yet a name t other names is ok large) = absurd (omega (arith, ap length (sym asks.are ∙ names.are)))
+  not_both : (v : i.Value) (l : Bytes) → HasRead held i v → HasFault held i l → ⊥
+  not_both v l a b =
+      is.never a.text v l a.valid (subst (λ t. i.IsWrong t l) (one_text (held i.name) b.text a.text tells b.is_held a.is_held) b.wrong)
+
+abbrev Same : Status → Status → Bytes → Bytes → Bytes → Bytes → Type 0
+Same s t o p e f = (s ≡ t) × (o ≡ p) × (e ≡ f)
+
+-- at most one answer is due
+pub one_answer : (held : Held) (r : Request) → IsExact r → TellsAll held r → (s t : Status) (o p e f : Bytes) → IsDue held r s o e → IsDue held r t p f → Same s t o p e f
+one_answer held no_command is tells s t o p e f a b = (a.0 ∙ sym b.0, a.1 ∙ sym b.1, a.2 ∙ sym b.2)
+one_answer held (answers u x) is tells s t o p e f a b = (a.0 ∙ sym b.0, a.1 ∙ sym b.1, a.2 ∙ sym b.2)
+one_answer held (reads i next) is tells s t o p e f (inl a) (inl b) = (a.0 ∙ sym b.0, a.1 ∙ sym b.1, one_fault held i is.0 tells.0 e f a.2 b.2)
+one_answer held (reads i next) is tells s t o p e f (inl a) (inr b) = absurd (not_both held i is.0 tells.0 b.0 e b.1 a.2)
+one_answer held (reads i next) is tells s t o p e f (inr a) (inl b) = absurd (not_both held i is.0 tells.0 a.0 f a.1 b.2)
+one_answer held (reads i next) is tells s t o p e f (inr a) (inr b) =
+    let P : i.Value → Type 0 = λ v. IsDue held (next v) t p f in
+    one_answer held (next a.0) (is.1 a.0) (tells.1 a.0 a.1) s t o p e f a.2 (subst P (one_value held i is.0 tells.0 b.0 a.0 b.1 a.1) b.2)
+
+-- where all inputs are valid, the answer is due
+pub answer_is_due : (held : Held) (r : Request) (s : Status) (text : Bytes) → HasAnswer held r s text → IsDue held r s text []
+answer_is_due held no_command s text has = absurd has
+answer_is_due held (answers u x) s text has = (has.0, has.1, refl)
+answer_is_due held (reads i next) s text (inl has) = absurd has
+answer_is_due held (reads i next) s text (inr has) = inr (has.0, has.1, answer_is_due held (next has.0) s text has.2)
+
+-- what is due comes
+module _ (r : Request) (is : IsExact r) (call : Call) (tells : TellsAll call.shelf.before.held r) (calm : HasNoFault call) (s : Status) (out err : Bytes) (due : IsDue call.shelf.before.held r s out err) where
+  comes_as : (status : Status) → Answers (prospect call.shelf.before.held r) call status → Comes call status s out err
+  comes_as status a =
+      let same = one_answer call.shelf.before.held r is tells status s a.out_text out a.err_text err a.due due in
+      inl (same.0, subst (λ (x : Bytes). Gets call.out x) same.1 a.out_gets, subst (λ (x : Bytes). Gets call.err x) same.2 a.err_gets)
+
+  due_comes : (status : Status) → EndsAs (prospect call.shelf.before.held r) call status → Comes call status s out err
+  due_comes Done a = comes_as Done a
+  due_comes Refused a = comes_as Refused a
+  due_comes Usage a = comes_as Usage a
+  due_comes BadInput a = comes_as BadInput a
+  due_comes Stopped a = comes_as Stopped a
+  due_comes No a = comes_as No a
+  due_comes ReadFault a = absurd (calm.shelf a.fails.rose)
+  due_comes WriteFault a = absurd (⊎_elim calm.out calm.err a.rose)
+  due_comes NoMemory a = inr refl
+
+  pub comes : (status : Status) → Ends r call status → Comes call status s out err
+  comes status ends = due_comes status ends.ends
+
+-- ---- commands
+
+pub choose_exact : (b : Bool) (x y : Request) → IsExact x → IsExact y → IsExact (choose b x y)
+choose_exact true x y hx hy = hx
+choose_exact false x y hx hy = hy
+
+pub where_given_exact : {A : Type 0} (o : Option A) (next : A → Request) → ((x : A) → IsExact (next x)) → IsExact (where_given o next)
+where_given_exact None next h = tt
+where_given_exact (Some x) next h = h x
+
+pub asked_of_exact : (c : Command) (g : Given) → IsExact (c.request g) → IsExact (asked_of c g)
+asked_of_exact c g h = choose_exact (has_only c.options g) (c.request g) no_command h tt
+
+-- where the words name the command
+pub asked_by_exact : (c : Command) (g : Given) (other : Request) → IsExact (c.request g) → IsExact other → IsExact (asked_by c g other)
+asked_by_exact c g other h k = choose_exact (bytes_eq g.command c.name) (asked_of c g) other (asked_of_exact c g h) k

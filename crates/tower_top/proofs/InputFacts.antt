@@ -1,12 +1,9 @@
 -- The text that a shelf holds, after a fetch.
-use Rattle.std.proofs.Common.{◌≡◌, ◌<◌, ◌≤◌, ◌+◌, ℕ, List, [], ◌∷◌, ◌++◌, ◌⊎◌, inl, inr, ⊎_elim, length, take, Option, Some, None, refl, sym, ap, arith, length-take, length-append, codes, decimal}
+use Rattle.std.proofs.Common.{◌≡◌, ◌<◌, ◌+◌, ℕ, List, ◌⊎◌, inl, inr, length, take, Option, Some, None, refl, sym, ap, arith, length-take}
 use Rattle.std.specs.Prelude.{IfSome}
-use Rattle.std.proofs.lemmas.Fmt.{length-decimal-le}
 use Rattle.tower_reader.specs.declared.fault.ReadFault.{ReadFault}
 use Rattle.tower_reader.specs.declared.fault.ReadFault.TheVariants as fault
 use Rattle.tower_reader.specs.Faults.{TextOffends, Precedes, IsFault}
-use Rattle.tower_top.specs.Answers.{IsNoTicks}
-use Rattle.tower_top.specs.Small.{IsNotSmall}
 
 pub told : (o : Option (List ℕ)) (xs : List ℕ) → IfSome o (λ t. xs ≡ t) → IfSome o (λ t. t ≡ xs)
 told None xs h = h
@@ -17,18 +14,6 @@ pub long : (o : Option (List ℕ)) (xs : List ℕ) (most : ℕ) → IfSome o (λ
     → (x : List ℕ) × IfSome o (λ t. t ≡ x) × (most < length x)
 long None xs most h e = (xs, tt, omega arith)
 long (Some t) xs most h e = (t, refl, omega (arith, ap length h, length-take (most + 1) t))
-
--- a line of ticks is short
-pub no_ticks : (text : List ℕ) → 16777216 < length text → IsNoTicks text
-no_ticks text h n is =
-    let d : length (decimal n) ≤ 20 = length-decimal-le 20 n (omega arith) (let k = is.few in omega arith) (let k = is.few in omega arith) in
-    ⊎_elim
-    (λ (e : text ≡ codes "tick " ++ decimal n). omega (arith, ap length e, length-append (codes "tick ") (decimal n)))
-    (λ (e : text ≡ codes "tick " ++ decimal n ++ 10 ∷ []). omega (arith, ap length e, length-append (codes "tick ") (decimal n), length-append (codes "tick " ++ decimal n) (10 ∷ [])))
-    is.line
-
-pub not_small : (text : List ℕ) → 16384 < length text → IsNotSmall text
-not_small text h s spells = let k = spells.short in absurd (omega arith)
 
 -- before all else that may be wrong
 long_first : (text : List ℕ) (g : ReadFault) → TextOffends text g → (g ≡ fault.Long 1048576) ⊎ Precedes (fault.Long 1048576) g

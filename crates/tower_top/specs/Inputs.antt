@@ -1,28 +1,18 @@
--- What reading an input says, by its answer.
-use Rattle.std.specs.Prelude.{⊤}
-use Rattle.tower_top.specs.declared.inputs.Input.{Input}
-use Rattle.tower_top.specs.declared.inputs.Input.TheVariants.{Valid, Wrong, Unread, NoMemory}
+-- The inputs of commands.
+use Rattle.std.specs.Prelude.{◌≡◌, ℕ, List}
+use Rattle.tower_syntax.specs.Arch.{Arch}
+use Rattle.arch_checks.specs.declared.fault.Fault.{Fault}
+use Rattle.arch_checks.specs.Offences.{IsFault, IsAccepted}
+use Rattle.tower_report.specs.FaultText.{fault_line}
+use Rattle.tower_top.specs.declared.status.Status.TheVariants.{Refused, BadInput}
+use Rattle.tower_top.specs.Requests.{Input}
 
-abbrev pub OnValid : {T W : Type 0} → Input T W → (T → Type 0) → Type 0
-OnValid (Valid x) P = P x
-OnValid (Wrong why) P = ⊤
-OnValid Unread P = ⊤
-OnValid NoMemory P = ⊤
-
-abbrev pub OnWrong : {T W : Type 0} → Input T W → (W → Type 0) → Type 0
-OnWrong (Valid x) P = ⊤
-OnWrong (Wrong why) P = P why
-OnWrong Unread P = ⊤
-OnWrong NoMemory P = ⊤
-
-abbrev pub OnUnread : {T W : Type 0} → Input T W → Type 0 → Type 0
-OnUnread (Valid x) P = ⊤
-OnUnread (Wrong why) P = ⊤
-OnUnread Unread P = P
-OnUnread NoMemory P = ⊤
-
-abbrev pub UnlessUnread : {T W : Type 0} → Input T W → Type 0 → Type 0
-UnlessUnread (Valid x) P = P
-UnlessUnread (Wrong why) P = P
-UnlessUnread Unread P = ⊤
-UnlessUnread NoMemory P = P
+-- FILE, of which the text has at most 1,048,576 bytes
+abbrev pub file_input : List ℕ → Input
+file_input name = record {
+  name = name;
+  Value = Arch;
+  IsValid = IsAccepted;
+  IsWrong = λ text line. (f : Fault) × IsFault text f × (line ≡ fault_line f);
+  status = Refused;
+}

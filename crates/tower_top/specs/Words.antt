@@ -1,33 +1,91 @@
--- What the words of the command line ask for.
-use Rattle.std.specs.Prelude.{◌≡◌, ◌⊎◌, ℕ, List, [], ◌∷◌, codes}
-use Rattle.tower_top.specs.declared.words.Command.{Command}
-use Rattle.tower_top.specs.declared.words.Command.TheVariants as command
+-- What the words of the command line give, by clap's meaning of a simple command.
+use Rattle.std.specs.Prelude.{ℕ, List, [], ◌∷◌, Option, Some, None, option_map, option_and_then, Bool, true, false, ◌&&◌, codes}
+use Rattle.clap.specs.Walk.{Row, Rule, first_of}
+use Rattle.clap.specs.Simple.{App, new_app, new_rule, with_rule, matches_of}
+use Rattle.clap.specs.Faults.{fault_of}
+use Rattle.clap.specs.Kinds.{Kinds}
+use Rattle.tower_top.specs.declared.words.Given.{Given as GivenWords}
+use Rattle.tower_top.specs.declared.words.Options.{Options}
 
--- `check FILE`, behind the program's own name
-pub record AsksCheck (words : List (List ℕ)) (file : List ℕ) : Type 0 where
-  pub program : List ℕ
-  pub are : words ≡ program ∷ codes "check" ∷ file ∷ []
+abbrev pub Text : Type 0
+Text = List ℕ
 
--- `run FILE --record NAME`
-pub record AsksRun (words : List (List ℕ)) (file record_name : List ℕ) : Type 0 where
-  pub program : List ℕ
-  pub are : words ≡ program ∷ codes "run" ∷ file ∷ codes "--record" ∷ record_name ∷ []
+-- ---- the simple command
 
-abbrev pub AsksNoCheck : List (List ℕ) → Type 0
-AsksNoCheck words = (file : List ℕ) → AsksCheck words file → ⊥
+-- a word at its place, which must be there
+abbrev pub positional : Text → Rule
+positional id = record (new_rule id) { required = true }
 
-abbrev pub AsksNoRun : List (List ℕ) → Type 0
-AsksNoRun words = (file record_name : List ℕ) → AsksRun words file record_name → ⊥
+-- an option with one value
+abbrev pub option : Text → Rule
+option id = record (new_rule id) { long = Some id }
 
--- they give no command
-abbrev pub AsksNothing : List (List ℕ) → Type 0
-AsksNothing words = AsksNoCheck words × AsksNoRun words
+abbrev pub with_rules : App → List Rule → App
+with_rules a [] = a
+with_rules a (r ∷ rs) = with_rules (with_rule a r) rs
 
--- they give a command with this FILE
-abbrev pub AsksWith : List (List ℕ) → List ℕ → Type 0
-AsksWith words file = AsksCheck words file ⊎ ((record_name : List ℕ) × AsksRun words file record_name)
+abbrev pub towerc : App
+towerc = with_rules (new_app (codes "towerc")) (positional (codes "command") ∷ positional (codes "file")
+    ∷ option (codes "record") ∷ option (codes "choices") ∷ option (codes "order") ∷ option (codes "steps") ∷ [])
 
--- they give this command
-abbrev pub Asks : List (List ℕ) → Command → Type 0
-Asks words (command.Check file) = AsksCheck words file.now
-Asks words (command.Run file record_name) = AsksRun words file.now record_name.now
+-- ---- what it finds
+
+-- the words of a command: its name, FILE and the values of its options
+pub record Given : Type 0 where
+  pub command : Text
+  pub file : Text
+  pub record_name : Option Text
+  pub choices_name : Option Text
+  pub order_name : Option Text
+  pub steps : Option Text
+
+abbrev pub gathered : Option Text → Option Text → Option Text → Option Text → Option Text → Option Text → Option Given
+gathered None file record_name choices_name order_name steps = None
+gathered (Some command) None record_name choices_name order_name steps = None
+gathered (Some command) (Some file) record_name choices_name order_name steps = Some (record {
+  command = command;
+  file = file;
+  record_name = record_name;
+  choices_name = choices_name;
+  order_name = order_name;
+  steps = steps;
+})
+
+abbrev pub given_in : List Row → Option Given
+given_in rows = gathered (first_of (codes "command") rows) (first_of (codes "file") rows)
+    (first_of (codes "record") rows) (first_of (codes "choices") rows) (first_of (codes "order") rows) (first_of (codes "steps") rows)
+
+abbrev pub unless_refused : {A : Type 0} → Kinds → Option A → Option A
+unless_refused [] found = found
+unless_refused (k ∷ ks) found = None
+
+-- what the words give, or none where clap refuses them
+unfoldable pub given_by : List Text → Option Given
+given_by words = unless_refused (fault_of towerc words) (given_in (matches_of towerc words))
+
+-- ---- options
+
+-- none of them
+abbrev pub no_options : Options
+no_options = record { record_name = false; choices_name = false; order_name = false; steps = false }
+
+abbrev pub is_allowed : Bool → Option Text → Bool
+is_allowed allowed None = true
+is_allowed allowed (Some value) = allowed
+
+-- no option is given but these
+abbrev pub has_only : Options → Given → Bool
+has_only options g = is_allowed options.record_name g.record_name && (is_allowed options.choices_name g.choices_name
+    && (is_allowed options.order_name g.order_name && is_allowed options.steps g.steps))
+
+-- ---- as the program has them
+
+abbrev pub given_of : GivenWords → Given
+given_of g = record {
+  command = g.command.now;
+  file = g.file.now;
+  record_name = option_map (λ s. s.now) g.record_name;
+  choices_name = option_map (λ s. s.now) g.choices_name;
+  order_name = option_map (λ s. s.now) g.order_name;
+  steps = option_map (λ s. s.now) g.steps;
+}

@@ -1,56 +1,39 @@
-//! FILE, read in pieces.
-ghost use Rattle.std.specs.Prelude.{◌≡◌, ◌≢◌, ◌+◌, ◌<◌, ◌≤◌, ◌++◌, List, [], ℕ, Some, length, IsSome, OnOk, IfOk, IfErr, MatchOption};
+//! FILE, read in pieces, and checked.
+ghost use Rattle.std.specs.Prelude.{◌≡◌, ◌+◌, ◌<◌, ◌≤◌, ◌++◌, List, [], ℕ, Some, length, IsSome, OnOk, IfOk};
 ghost use Rattle.tower_io.specs.Faults.{Rose};
 ghost use Rattle.tower_io.specs.Fetching.{OnFetched, OnLong, OnFetchFailed, UnlessFetchFailed};
-ghost use Rattle.tower_reader.specs.Faults.{IsFault};
-ghost use Rattle.tower_top.specs.Answers.{IsHeld};
-ghost use Rattle.tower_top.specs.File.{HasTaken, IsFile, IsSmallOf, IsTold};
-ghost use Rattle.tower_top.specs.Inputs.{OnValid, OnWrong, OnUnread, UnlessUnread};
+ghost use Rattle.tower_syntax.specs.RawView.{raw_of};
+ghost use Rattle.tower_reader.specs.Spelled.{Spells};
+ghost use Rattle.tower_reader.specs.Faults.{IsFault as IsReadFault};
+ghost use Rattle.arch_checks.specs.Offences.{IsAccepted, IsFault};
+ghost use Rattle.tower_top.specs.Calls.{shelf_change, sink_change};
+ghost use Rattle.tower_top.specs.Endings.{Reads};
+ghost use Rattle.tower_top.specs.Fetched.{IsFetched};
+ghost use Rattle.tower_top.specs.File.{HasTaken, IsTold};
+ghost use Rattle.tower_top.specs.Inputs.{file_input};
 
-use crate::inputs::Input;
-use crate::small::{Small, small_file};
+use crate::fetched::Fetched;
+use crate::status::{Status, after};
+use arch_checks::{Checked, Fault, check_raw};
 use std::alloc::Global;
-use tower_io::{Begin, Fetch, Next, Shelf};
+use tower_io::{Begin, Fetch, Next, Shelf, Sink};
 use tower_reader::{Fed, ReadFault, Reader};
+use tower_report::{put_fault, put_unread};
 use tower_syntax::Raw;
 use tower_types::NoMemory;
 
 /// The greatest length of FILE in bytes.
 const TEXT_LIMIT: usize = 1_048_576;
 
-/// The greatest length of a small file in bytes.
-const SMALL_LIMIT: usize = 16_384;
-
 /// The largest piece that is asked of a shelf at once, in bytes.
 const PIECE: usize = 4096;
-
-/// A file whose text has no fault.
-#[derive(Drop)]
-pub struct File {
-    pub raw: Raw,
-    /// What it is as a small file, if it is one.
-    pub small: Option<Small>,
-}
 
 /// A text of which pieces have come.
 #[derive(Drop)]
 struct Pieces {
-    alloc: Global,
     reader: Reader,
     /// How many bytes have come.
     taken: usize,
-    /// All of them, as long as a small file may have as many, and else none.
-    bytes: Vec<u8>,
-}
-
-/// The small file that a text is, of which so many bytes have come, all of them kept where they are few.
-fn small_of_kept(alloc: Global, taken: usize, bytes: &[u8]) -> Result<Option<Small>, NoMemory>
-    ensures { IfOk result (λ found. (text : List ℕ) → taken ≡ length text → (length text ≤ 16384 → bytes.now ≡ text) → IsSmallOf text found) }
-{
-    if taken > SMALL_LIMIT {
-        return Ok(None);
-    }
-    small_file(alloc, bytes)
 }
 
 impl Pieces {
@@ -59,12 +42,7 @@ impl Pieces {
         ensures counts { IfOk result (λ p. p.taken ≡ 0) }
     {
         let reader = Reader::new(alloc)?;
-        Ok(Pieces {
-            alloc,
-            reader,
-            taken: 0,
-            bytes: Vec::new(alloc),
-        })
+        Ok(Pieces { reader, taken: 0 })
     }
 
     /// Takes the next piece.
@@ -77,30 +55,7 @@ impl Pieces {
             return Err(NoMemory);
         }
         self.taken += piece.len();
-        if self.taken <= SMALL_LIMIT {
-            self.bytes.extend_from_slice(piece)?;
-        } else {
-            self.bytes.clear();
-        }
         Ok(())
-    }
-
-    /// The file that the whole text is, or its first fault.
-    fn finish(self) -> Result<File, ReadFault>
-        ensures file { IfOk result (λ file. (text : List ℕ) → HasTaken self text → IsFile text file) }
-        ensures fault { IfErr result (λ f. f ≢ ReadFault.NoMemory → (text : List ℕ) → HasTaken self text → IsFault text f) }
-    {
-        let Pieces {
-            alloc,
-            reader,
-            taken,
-            bytes,
-        } = self;
-        let raw = reader.finish()?;
-        match small_of_kept(alloc, taken, bytes.as_slice()) {
-            Ok(small) => Ok(File { raw, small }),
-            Err(_) => Err(ReadFault::NoMemory),
-        }
     }
 }
 
@@ -137,39 +92,66 @@ fn read_on<F: Shelf>(shelf: &mut F, pieces: &mut Pieces) -> Fetch
     Fetch::Long
 }
 
-/// Reads FILE: its tree, or the first fault of its text.
-pub fn read_file<F: Shelf>(alloc: Global, shelf: &mut F, name: &str) -> Input<File, ReadFault>
-    ensures valid { OnValid result (λ file. (text : List ℕ) × IsHeld (F.held shelf.old) name.now text × IsFile text file) }
-    ensures wrong { OnWrong result (λ f. (text : List ℕ) × IsHeld (F.held shelf.old) name.now text × IsFault text f) }
-
-    ensures rose { OnUnread result (Rose (F.faults shelf.old) (F.faults shelf.new)) }
-    ensures blames { OnUnread result (F.blamed shelf.new ≡ name.now) }
-    ensures calm { UnlessUnread result (F.faults shelf.new ≡ F.faults shelf.old) }
-    ensures blames_none { UnlessUnread result (F.blamed shelf.new ≡ F.blamed shelf.old) }
-    ensures never_falls { F.faults shelf.old ≤ F.faults shelf.new }
-    ensures holds { F.held shelf.new ≡ F.held shelf.old }
+/// Reads the tree of FILE, or the first fault of its text.
+fn read_tree<F: Shelf>(alloc: Global, shelf: &mut F, name: &str) -> Fetched<Raw, ReadFault>
+    ensures { IsFetched (shelf_change F.held F.blamed F.faults shelf.old shelf.new) name.now (λ text raw. Spells text (raw_of raw)) IsReadFault result }
 {
     let Ok(mut pieces) = Pieces::new(alloc) else {
-        return Input::NoMemory;
+        return Fetched::NoMemory;
     };
     match shelf.begin(alloc, name) {
         Begin::Begun => {}
-        Begin::Failed => return Input::Unread,
-        Begin::NoMemory => return Input::NoMemory,
+        Begin::Failed => return Fetched::Unread,
+        Begin::NoMemory => return Fetched::NoMemory,
     }
     match read_on(shelf, &mut pieces) {
         Fetch::Done => {}
         Fetch::Long => {
-            return Input::Wrong(ReadFault::Long {
+            return Fetched::Wrong(ReadFault::Long {
                 limit: TEXT_LIMIT as u64,
             });
         }
-        Fetch::Failed => return Input::Unread,
-        Fetch::NoMemory => return Input::NoMemory,
+        Fetch::Failed => return Fetched::Unread,
+        Fetch::NoMemory => return Fetched::NoMemory,
     }
-    match pieces.finish() {
-        Ok(file) => Input::Valid(file),
-        Err(ReadFault::NoMemory) => Input::NoMemory,
-        Err(fault) => Input::Wrong(fault),
+    match pieces.reader.finish() {
+        Ok(raw) => Fetched::Valid(raw),
+        Err(ReadFault::NoMemory) => Fetched::NoMemory,
+        Err(fault) => Fetched::Wrong(fault),
+    }
+}
+
+/// Reads and checks FILE.
+fn read_checked<F: Shelf>(alloc: Global, shelf: &mut F, name: &str) -> Fetched<Checked, Fault>
+    ensures { IsFetched (shelf_change F.held F.blamed F.faults shelf.old shelf.new) name.now IsAccepted IsFault result }
+{
+    let raw = match read_tree(alloc, shelf, name) {
+        Fetched::Valid(raw) => raw,
+        Fetched::Wrong(fault) => return Fetched::Wrong(Fault::from(fault)),
+        Fetched::Unread => return Fetched::Unread,
+        Fetched::NoMemory => return Fetched::NoMemory,
+    };
+    match check_raw(alloc, &raw) {
+        Ok(checked) => Fetched::Valid(checked),
+        Err(Fault::NoMemory) => Fetched::NoMemory,
+        Err(fault) => Fetched::Wrong(fault),
+    }
+}
+
+/// Reads and checks FILE, and tells where it could not be read or has a fault.
+pub fn read_file<F: Shelf, E: Sink>(
+    alloc: Global,
+    name: &str,
+    shelf: &mut F,
+    err: &mut E,
+) -> Result<Checked, Status>
+    ensures { Reads (file_input name.now) (λ arch. arch) (shelf_change F.held F.blamed F.faults shelf.old shelf.new)
+        (sink_change E.written E.faults err.old err.new) result }
+{
+    match read_checked(alloc, shelf, name) {
+        Fetched::Valid(checked) => Ok(checked),
+        Fetched::Wrong(fault) => Err(after(put_fault(err, &fault), Status::Refused)),
+        Fetched::Unread => Err(after(put_unread(err, shelf.blamed()), Status::ReadFault)),
+        Fetched::NoMemory => Err(Status::NoMemory),
     }
 }

@@ -1,17 +1,16 @@
 //! The top call of towerc: words and inputs to a text and a status.
 #![tactic(auto)]
 
-mod arch;
-mod compile;
-mod ending;
+mod check;
+mod choices;
+mod events;
+mod fetched;
 mod file;
-mod inputs;
 pub mod laws;
 mod run;
-mod small;
 mod status;
-mod ticks;
 mod top;
+mod usage;
 mod words;
 
 pub use status::Status;

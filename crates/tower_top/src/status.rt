@@ -1,5 +1,8 @@
 ghost use Rattle.std.specs.Prelude.{◌≡◌};
+ghost use Rattle.tower_top.specs.Endings.{status_after};
 ghost use Rattle.tower_top.specs.Status.{code_of};
+
+use tower_io::Put;
 
 /// How a call of `tower` ended. The numbers are the exit statuses of the program.
 #[derive(Clone, Copy, Debug, PartialEq, Eq)]
@@ -30,5 +33,15 @@ impl Status {
         ensures { result ≡ code_of self }
     {
         self as u8
+    }
+}
+
+/// The status, or that of a put that failed.
+pub fn after(put: Put, status: Status) -> Status
+    ensures { result ≡ status_after put status }
+{
+    match put {
+        Put::Done => status,
+        Put::Failed => Status::WriteFault,
     }
 }

@@ -13,14 +13,6 @@ use tower_types::NoMemory;
 const CLOCK: &str =
     "(tower clock (period beat 10 5)\n (monitor count (state n u32)\n  (handler tick beat (callback t (set n (+ n (u32 1)))))))\n";
 
-/// The same counting down, which is no small file.
-const DOWN: &str =
-    "(tower clock (period beat 10 5)\n (monitor count (state n u32)\n  (handler tick beat (callback t (set n (- n (u32 1)))))))\n";
-
-/// The text of `clock` over 25 ticks: a message at every tenth, and twelve instructions for each.
-const TEXT: &str =
-    "0 a\n0 a\n0 a\n0 a\n0 a\n0 a\n0 a\n0 a\n0 a\n0 a\n1 s beat\n10 r beat\n12 a\n12 a\n12 a\n12 a\n12 a\n12 a\n12 a\n12 a\n12 a\n12 a\n13 s beat\n22 r beat\n24 a\n24 a\n24 a\n24 a\n24 a\nstate count n 2\ncount 24\ndone\n";
-
 /// A file with every kind of source, a record and an array.
 const FLIGHT: &str =
     "(tower flight\n (record att (field roll i32) (field pitch i32))\n (init boot 250) (period fast 1 200) (period mid 5 150) (period slow 20 100)\n (signal gps att 180) (signal cmd i32 160)\n (channel rate i32) (channel pose att) (channel motor i32) (channel beat u8)\n (output pwm motor) (output radio beat)\n (monitor gyro (state raw i32)\n  (handler gyro_init boot (callback t (set raw (i32 100))))\n  (handler sample fast (emitter e rate 1)\n   (callback t (set raw (+ raw (cast i32 t))) (emit e raw))))\n (monitor fuse\n  (state now att) (state hist (array 4 i32)) (state pos (ix 4))\n  (handler on_rate rate\n   (callback w (set (at hist pos) w) (set pos (+ pos (ix 4 1)))))\n  (handler on_gps gps (callback p (copy now p)))\n  (handler publish mid (emitter e pose 1)\n   (callback t\n    (local sum i32)\n    (for i 4 (set sum (+ sum (at hist i))))\n    (set (get now roll) (/ sum (i32 4)))\n    (emit e now))))\n (monitor ctl (state goal i32)\n  (handler on_cmd cmd (callback v (set goal v)))\n  (handler steer pose (emitter e motor 1)\n   (callback p (emit e (- goal (get p roll))))))\n (monitor life (state n u8)\n  (handler alive slow (emitter e beat 1)\n   (callback t (set n (+ n (u8 1))) (emit e n)))))\n";
@@ -33,17 +25,24 @@ const FLIGHT_CHECK: &str =
 const CLOCK_CHECK: &str =
     "tower clock\nrecords 0 sources 1 channels 0 outputs 0 monitors 1 handlers 1\ncost beat 216\nmemory 132\ncode 216\nok\n";
 
+/// The run of `clock` over 25 ticks, stopped before its first instruction, and before its second.
+const NO_STEP: &str =
+    "0 a\n0 a\n0 a\n0 a\n0 a\n0 a\n0 a\n0 a\n0 a\n0 a\nstate count n 0\ncount 0\nstopped\n";
+
+const ONE_STEP: &str =
+    "0 a\n0 a\n0 a\n0 a\n0 a\n0 a\n0 a\n0 a\n0 a\n0 a\n1 s beat\nstate count n 0\ncount 1\nstopped\n";
+
 const USAGE: &str = "usage: towerc COMMAND FILE [OPTIONS]\n";
 
-/// A shelf with these files and one that is not closed, a record, and a text that is none.
+/// A shelf with these files, of which one is not closed, with records and choices, of which some are none.
 fn shelf(alloc: Global, fails: &[u64]) -> Result<MemShelf, AllocError> {
     let mut files = Vec::new(alloc);
     for (name, text) in [
         ("clock", CLOCK),
-        ("down", DOWN),
         ("open", "(tower a"),
         ("ticks", "tick 25"),
-        ("none", "tick 0"),
+        ("none", "tick 1\ntick 0"),
+        ("no_choice", "go"),
     ] {
         files.push((
             String::from_str(alloc, name)?,
@@ -65,43 +64,7 @@ fn words(alloc: Global, line: &str) -> Result<Vec<String>, AllocError> {
 }
 
 /// Each line of words with its status and what it writes on `out` and on `err`.
-const ANSWERS: [(&str, Status, &str, &str); 18] = [
-    ("towerc run clock --record ticks", Status::Done, TEXT, ""),
-    (
-        "towerc run down --record ticks",
-        Status::Refused,
-        "",
-        "refused: notyet 0\n",
-    ),
-    (
-        "towerc run open --record absent",
-        Status::Refused,
-        "",
-        "refused: unclosed 0\n",
-    ),
-    (
-        "towerc run clock --record none",
-        Status::BadInput,
-        "",
-        "bad record 1 line\n",
-    ),
-    (
-        "towerc run absent --record ticks",
-        Status::ReadFault,
-        "",
-        "cannot read absent\n",
-    ),
-    (
-        "towerc run clock --record absent",
-        Status::ReadFault,
-        "",
-        "cannot read absent\n",
-    ),
-    ("", Status::Usage, "", USAGE),
-    ("towerc", Status::Usage, "", USAGE),
-    ("towerc run clock", Status::Usage, "", USAGE),
-    ("towerc run clock --record", Status::Usage, "", USAGE),
-    ("towerc run clock --records ticks", Status::Usage, "", USAGE),
+const ANSWERS: [(&str, Status, &str, &str); 30] = [
     ("towerc check clock", Status::Done, CLOCK_CHECK, ""),
     (
         "towerc check open",
@@ -115,11 +78,94 @@ const ANSWERS: [(&str, Status, &str, &str); 18] = [
         "",
         "cannot read absent\n",
     ),
+    ("", Status::Usage, "", USAGE),
+    ("towerc", Status::Usage, "", USAGE),
     ("towerc check", Status::Usage, "", USAGE),
+    ("towerc check clock more", Status::Usage, "", USAGE),
     ("towerc check clock --steps 5", Status::Usage, "", USAGE),
-    ("towerc walk clock --record ticks", Status::Usage, "", USAGE),
+    ("towerc check clock --steps", Status::Usage, "", USAGE),
     (
-        "towerc run clock --record ticks more",
+        "towerc check clock --record a --record b",
+        Status::Usage,
+        "",
+        USAGE,
+    ),
+    ("towerc check clock --faster", Status::Usage, "", USAGE),
+    ("towerc fly clock", Status::Usage, "", USAGE),
+    ("towerc --help", Status::Usage, "", USAGE),
+    ("towerc check -h", Status::Usage, "", USAGE),
+    ("towerc help check", Status::Usage, "", USAGE),
+    ("towerc check -- clock", Status::Done, CLOCK_CHECK, ""),
+    (
+        "towerc run clock --record ticks --steps 0",
+        Status::Stopped,
+        NO_STEP,
+        "",
+    ),
+    (
+        "towerc --steps=1 run --record ticks clock",
+        Status::Stopped,
+        ONE_STEP,
+        "",
+    ),
+    (
+        "towerc run open --record absent",
+        Status::Refused,
+        "",
+        "refused: unclosed 0\n",
+    ),
+    (
+        "towerc run clock --record absent",
+        Status::ReadFault,
+        "",
+        "cannot read absent\n",
+    ),
+    (
+        "towerc run clock --record none --choices absent",
+        Status::BadInput,
+        "",
+        "bad record 2 line\n",
+    ),
+    (
+        "towerc run clock --record ticks --choices absent",
+        Status::ReadFault,
+        "",
+        "cannot read absent\n",
+    ),
+    (
+        "towerc run clock --record ticks --choices no_choice",
+        Status::BadInput,
+        "",
+        "bad choices 1 line\n",
+    ),
+    ("towerc run clock", Status::Usage, "", USAGE),
+    ("towerc run clock --record", Status::Usage, "", USAGE),
+    (
+        "towerc run clock --record ticks --order ticks",
+        Status::Usage,
+        "",
+        USAGE,
+    ),
+    (
+        "towerc run clock --record ticks --steps 007",
+        Status::Usage,
+        "",
+        USAGE,
+    ),
+    (
+        "towerc run clock --record ticks --steps 1000000001",
+        Status::Usage,
+        "",
+        USAGE,
+    ),
+    (
+        "towerc run clock --record ticks --record ticks",
+        Status::Usage,
+        "",
+        USAGE,
+    ),
+    (
+        "towerc run clock --record ticks --steps -1",
         Status::Usage,
         "",
         USAGE,
@@ -260,12 +306,12 @@ fn follows_links(rt: HostRuntime) -> Result<(), Fail> {
     Ok(())
 }
 
-// Each file is a `begin`, a piece and the end.
+// FILE is a `begin`, a piece and the end.
 #[test]
 fn each_call_of_the_shelf_fails_in_turn(rt: HostRuntime) -> Result<(), Fail> {
     let alloc = rt.alloc();
-    let words = words(alloc, "towerc run clock --record ticks")?;
-    for number in 0..7u64 {
+    let words = words(alloc, "towerc check clock")?;
+    for number in 0..4u64 {
         let mut out = MemSink::new(alloc, 1000, Vec::new(alloc))?;
         let mut err = MemSink::new(alloc, 1000, Vec::new(alloc))?;
         let answer = tower(
@@ -277,8 +323,7 @@ fn each_call_of_the_shelf_fails_in_turn(rt: HostRuntime) -> Result<(), Fail> {
         );
         let (status, on_out, on_err) = match number {
             0..=2 => (Status::ReadFault, "", "cannot read clock\n"),
-            3..=5 => (Status::ReadFault, "", "cannot read ticks\n"),
-            _ => (Status::Done, TEXT, ""),
+            _ => (Status::Done, CLOCK_CHECK, ""),
         };
         assert_eq!(rt; answer, status, "{number}");
         assert_eq!(rt; out.bytes(), on_out.as_bytes(), "{number}");
@@ -287,37 +332,14 @@ fn each_call_of_the_shelf_fails_in_turn(rt: HostRuntime) -> Result<(), Fail> {
     Ok(())
 }
 
-// Of the text of a run, and of each line that tells a fault.
+// Of the text of a check, and of each line that tells a fault.
 #[test]
 fn each_put_fails_in_turn(rt: HostRuntime) -> Result<(), Fail> {
     let alloc = rt.alloc();
     for (line, on_out, on_err, most) in [
-        ("towerc run clock --record ticks", TEXT, "", 400u64),
-        ("towerc check clock", CLOCK_CHECK, "", 60),
-        (
-            "towerc run clock --record absent",
-            "",
-            "cannot read absent\n",
-            6,
-        ),
-        (
-            "towerc run down --record ticks",
-            "",
-            "refused: notyet 0\n",
-            6,
-        ),
-        (
-            "towerc run open --record ticks",
-            "",
-            "refused: unclosed 0\n",
-            12,
-        ),
-        (
-            "towerc run clock --record none",
-            "",
-            "bad record 1 line\n",
-            6,
-        ),
+        ("towerc check clock", CLOCK_CHECK, "", 60u64),
+        ("towerc check absent", "", "cannot read absent\n", 6),
+        ("towerc check open", "", "refused: unclosed 0\n", 12),
         ("towerc", "", USAGE, 6),
     ] {
         let words = words(alloc, line)?;

@@ -1,53 +1,120 @@
 //! The words of the command line.
-ghost use Rattle.std.specs.Prelude.{MatchOption, map, string_bytes};
-ghost use Rattle.tower_top.specs.Words.{Asks, AsksCheck, AsksRun, AsksNoCheck, AsksNoRun, AsksNothing};
+ghost use Rattle.std.specs.Prelude.{◌≡◌, IfOk, false, map, option_map, string_bytes};
+ghost use Rattle.clap.specs.Matches.{found_of};
+ghost use Rattle.clap.specs.Simple.{app_of};
+ghost use Rattle.clap.specs.Walk.{rows_of, rule_of};
+ghost use Rattle.tower_top.specs.Words.{given_by, given_in, given_of, has_only, is_allowed, option, positional, towerc};
 
-/// What the words ask for.
+use clap::error::ErrorKind;
+use clap::{Arg, ArgMatches, Command};
+use std::alloc::{AllocError, Global};
+
+/// The words of a command, of which each was given in its form.
 #[derive(Clone, Copy)]
-pub enum Command<'a> {
-    /// Whether the file is accepted.
-    Check { file: &'a str },
-    /// The run of the file over a record.
-    Run { file: &'a str, record_name: &'a str },
+pub struct Given<'a> {
+    pub command: &'a str,
+    pub file: &'a str,
+    pub record_name: Option<&'a str>,
+    pub choices_name: Option<&'a str>,
+    pub order_name: Option<&'a str>,
+    pub steps: Option<&'a str>,
 }
 
-/// The file that `check FILE` names, behind the program's own name.
-fn asked_check(words: &[String]) -> Option<&str>
-    ensures { MatchOption result (AsksNoCheck (map string_bytes words.now)) (λ file. AsksCheck (map string_bytes words.now) file.now) }
+/// A word at its place, which must be there.
+fn positional<'a>(alloc: Global, id: &'a str) -> Arg<'a>
+    ensures rule { rule_of result ≡ positional id.entry.now }
+    ensures local { result.global ≡ false }
 {
-    let [_, command, file] = words else {
-        return None;
+    Arg::new(alloc, id).required(true)
+}
+
+/// An option with one value.
+fn option<'a>(alloc: Global, id: &'a str) -> Arg<'a>
+    ensures rule { rule_of result ≡ option id.entry.now }
+    ensures local { result.global ≡ false }
+{
+    Arg::new(alloc, id).long(id)
+}
+
+/// The simple command by which the words are read.
+fn towerc<'a>(alloc: Global) -> Result<Command<'a>, AllocError>
+    ensures { IfOk result (λ c. app_of c ≡ towerc) }
+{
+    let towerc = Command::new(alloc, "towerc")
+        .arg(positional(alloc, "command"))?
+        .arg(positional(alloc, "file"))?
+        .arg(option(alloc, "record"))?
+        .arg(option(alloc, "choices"))?
+        .arg(option(alloc, "order"))?
+        .arg(option(alloc, "steps"))?;
+    Ok(towerc)
+}
+
+/// What the matches have.
+fn given_in<'a>(matches: &ArgMatches<'a>) -> Option<Given<'a>>
+    ensures { option_map given_of result ≡ given_in (rows_of (found_of matches.now)) }
+{
+    Some(Given {
+        command: matches.get_str("command")?,
+        file: matches.get_str("file")?,
+        record_name: matches.get_str("record"),
+        choices_name: matches.get_str("choices"),
+        order_name: matches.get_str("order"),
+        steps: matches.get_str("steps"),
+    })
+}
+
+/// What the words give, of which the first is the program's own name, or none where they are refused.
+pub fn read_words<'a>(alloc: Global, words: &'a [String]) -> Result<Option<Given<'a>>, AllocError>
+    ensures { IfOk result (λ g. option_map given_of g ≡ given_by (map string_bytes words.entry.now)) }
+{
+    let matches = match towerc(alloc)?.try_get_matches_from(words) {
+        Ok(matches) => matches,
+        Err(error) => match error.kind() {
+            ErrorKind::OutOfMemory => return Err(AllocError),
+            _ => return Ok(None),
+        },
     };
-    if command.as_str() == "check" {
-        Some(file.as_str())
-    } else {
-        None
-    }
+    Ok(given_in(&matches))
 }
 
-/// The file and the record that `run FILE --record NAME` names, behind the program's own name.
-fn asked_run(words: &[String]) -> Option<(&str, &str)>
-    ensures { MatchOption result (AsksNoRun (map string_bytes words.now)) (λ r. AsksRun (map string_bytes words.now) r.0.now r.1.now) }
-{
-    let [_, command, file, option, record] = words else {
-        return None;
+/// Which options a command may have.
+#[derive(Clone, Copy)]
+pub struct Options {
+    pub record_name: bool,
+    pub choices_name: bool,
+    pub order_name: bool,
+    pub steps: bool,
+}
+
+impl Options {
+    /// None of them.
+    pub const NONE: Options = Options {
+        record_name: false,
+        choices_name: false,
+        order_name: false,
+        steps: false,
     };
-    if command.as_str() == "run" && option.as_str() == "--record" {
-        Some((file.as_str(), record.as_str()))
-    } else {
-        None
+}
+
+/// Whether an option is left out, or may be given.
+fn is_allowed(allowed: bool, value: Option<&str>) -> bool
+    ensures { result ≡ is_allowed allowed (option_map (λ s. s.now) value.entry) }
+{
+    match value {
+        None => true,
+        Some(_) => allowed,
     }
 }
 
-/// The command that the words give.
-pub fn asked(words: &[String]) -> Option<Command<'_>>
-    ensures { MatchOption result (AsksNothing (map string_bytes words.now)) (Asks (map string_bytes words.now)) }
-{
-    if let Some(file) = asked_check(words) {
-        return Some(Command::Check { file });
-    }
-    match asked_run(words) {
-        Some((file, record_name)) => Some(Command::Run { file, record_name }),
-        None => None,
+impl Given<'_> {
+    /// Whether no option is given but these.
+    pub fn has_only(&self, options: Options) -> bool
+        ensures { result ≡ has_only options (given_of self.now) }
+    {
+        is_allowed(options.record_name, self.record_name)
+            && is_allowed(options.choices_name, self.choices_name)
+            && is_allowed(options.order_name, self.order_name)
+            && is_allowed(options.steps, self.steps)
     }
 }

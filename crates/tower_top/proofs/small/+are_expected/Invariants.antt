@@ -1,5 +1,0 @@
-use Rattle.std.proofs.Common.{length}
-use Rattle.tower_top.proofs.small.+are_expected.Given as goal
-
-abbrev pub decreases-are_expected : goal.decreases-are_expected
-decreases-are_expected l = length l.tokens.now
