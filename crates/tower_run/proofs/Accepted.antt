@@ -25,8 +25,8 @@ use Rattle.task_code.specs.declared.program.Task.{Task}
 use Rattle.task_code.specs.Program.{Program}
 use Rattle.task_code.specs.Fits.{IsDepth, FitsKind, FitsSignal, FitsEntry, Fits}
 use Rattle.lock_reduction.specs.Shaped.{Shaped, priority_and_words}
-use Rattle.lock_reduction.specs.Reduce.{setting_of}
-use Rattle.lock_reduction.proofs.Lists.{get_map, get_unmap, get_within, all_at}
+use Rattle.task_alone.specs.SettingOf.{setting_of}
+use Rattle.task_alone.proofs.Lists.{get_map, get_unmap, get_within, all_at}
 use Rattle.arch_types.specs.Outline.{each}
 use Rattle.arch_types.proofs.Lists.{AllOf, all_left, all_right, each_of, looked}
 use Rattle.arch_checks.specs.Kept.{IsSomeDepth, KeepsNumbers}

@@ -5,7 +5,7 @@ use Rattle.std.specs.List.{list_any, list_all}
 use Rattle.std.proofs.lemmas.Option.{slice_get_within, same_Some}
 use Rattle.std.proofs.lemmas.Bool.Decides.{nat_tests}
 use Rattle.std.proofs.lemmas.List.{length-map}
-use Rattle.lock_reduction.proofs.Lists.{get_map}
+use Rattle.task_alone.proofs.Lists.{get_map}
 use Rattle.task_machine.proofs.Numbers.{get_over, length_over}
 use Rattle.std.proofs.lemmas.List.Elements.{All-head, All-tail}
 use Rattle.tower_types.specs.Value.{flat}

@@ -19,9 +19,9 @@ use Rattle.tower_meaning.specs.Atomic.{Atomic, act, arrive, begin, run, put, han
 use Rattle.tower_meaning.specs.Atomic as meaning
 use Rattle.tower_meaning.proofs.KeepsTypes.{keeps_types, brings_fitting}
 use Rattle.task_code.specs.Machine.{Machine}
-use Rattle.lock_reduction.specs.Setting.{Setting, KeepsTypes, Fits, FitItems}
-use Rattle.lock_reduction.specs.Reduce.{setting_of}
-use Rattle.lock_reduction.proofs.Lists.{get_unmap, get_within, after_set}
+use Rattle.task_alone.specs.Setting.{Setting, KeepsTypes, Fits, FitItems}
+use Rattle.task_alone.specs.SettingOf.{setting_of}
+use Rattle.task_alone.proofs.Lists.{get_unmap, get_within, after_set}
 use Rattle.lock_reduction.proofs.Arrivals.{QueuedFit, all_received}
 
 abbrev pub OutputsFit : Setting → List (ℕ × Value) → Type 0
