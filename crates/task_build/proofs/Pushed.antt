@@ -1,20 +1,18 @@
 -- Lists and code that grow by one part after another.
-use Rattle.std.proofs.Common.{◌≡◌, ◌∙◌, ℕ, zero, suc, ◌+◌, ◌<◌, ◌≤◌, List, [], ◌∷◌, ◌++◌, length, map, take, drop, get_or, Some, refl, sym, ap, arith, append_assoc, append-nil, slice_get}
-use Rattle.std.proofs.lemmas.List.{length-append, map-append, take_more, length-map, get_or-map, drop_all}
+use Rattle.std.proofs.Common.{◌≡◌, ◌∙◌, ℕ, zero, suc, ◌+◌, ◌<◌, ◌≤◌, List, [], ◌∷◌, ◌++◌, length, map, take, drop, get_or, Some, sym, ap, arith, append_assoc, append-nil, slice_get}
+use Rattle.std.proofs.lemmas.List.{length-append, map-append, take_more, drop_all}
 use Rattle.std.proofs.lemmas.Option.{get_or_from_slice_get}
-use Rattle.tower_syntax.specs.declared.arch.Listener.{Listener}
-use Rattle.tower_syntax.specs.declared.arch.Listener.TheVariants as to
 use Rattle.tower_syntax.specs.Arch.{Arch}
 use Rattle.tower_syntax.specs.Graph.{handler}
 use Rattle.task_code.specs.declared.program.Instr.{Instr}
-use Rattle.task_code.specs.declared.program.Instr.TheVariants.{Ld, St, Ret, Take, Jmp}
+use Rattle.task_code.specs.declared.program.Instr.TheVariants.{Ld, St, Ret}
 use Rattle.task_code.specs.declared.program.Buffer.{Buffer}
 use Rattle.task_code.specs.declared.frame.Frame.{Frame}
-use Rattle.task_code.specs.Piece.{Piece, nil, ins, ◌▸◌, end, listed, joined}
+use Rattle.task_code.specs.Piece.{Piece, end, listed}
 use Rattle.stmt_code.specs.Section.{section_code}
 use Rattle.emit_code.specs.Delivery.{Entry, entry_of, delivery_code}
 use Rattle.emit_code.proofs.Added.{added_more, end_is}
-use Rattle.task_build.specs.CodeOf.{words_passed, handler_code, handlers_code, buffers_of, all_buffers, taken_at}
+use Rattle.task_build.specs.CodeOf.{words_passed, handler_code, handlers_code, buffers_of, all_buffers}
 use Rattle.task_build.specs.Tables.{placed_from, head_of, placed_behind, code_behind}
 use Rattle.task_build.proofs.Tabled.{drop_next}
 

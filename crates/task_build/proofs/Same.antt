@@ -1,5 +1,5 @@
 -- The code of a task depends on its entries only by what is found of each handler.
-use Rattle.std.proofs.Common.{◌≡◌, ◌≢◌, ◌∙◌, ℕ, zero, suc, ◌+◌, ◌<◌, List, [], ◌∷◌, ◌++◌, length, map, take, pos, get_or, slice_index_or, None, refl, ap, sym, subst, arith}
+use Rattle.std.proofs.Common.{◌≡◌, ◌≢◌, ◌∙◌, ℕ, suc, ◌+◌, ◌<◌, List, [], ◌∷◌, ◌++◌, length, map, take, pos, get_or, slice_index_or, None, refl, ap, sym, subst, arith}
 use Rattle.std.specs.List.Sorted.{IsStrictlyIncreasing}
 use Rattle.tower_types.specs.declared.scalar.Scalar.TheVariants.{U64}
 use Rattle.tower_types.specs.declared.scalar.BinOp.TheVariants.{Add, Less}
@@ -18,7 +18,7 @@ use Rattle.task_code.specs.declared.program.Instr.{Instr}
 use Rattle.task_code.specs.declared.program.Task.{Task}
 use Rattle.task_code.specs.declared.frame.Frame.{Frame}
 use Rattle.task_code.specs.declared.frame.Frames.{Frames}
-use Rattle.task_code.specs.Piece.{Piece, nil, ins, ◌▸◌, end, listed, joined}
+use Rattle.task_code.specs.Piece.{Piece, ins, ◌▸◌, end, listed, joined}
 use Rattle.stmt_code.specs.Section.{section_code}
 use Rattle.emit_code.specs.Delivery.{Entry, entry_of, words_got, item_code, emitter_code, delivery_code}
 use Rattle.emit_code.specs.Framed.{entries_in}

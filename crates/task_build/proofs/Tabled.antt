@@ -1,5 +1,5 @@
 -- Frames and places that are looked up by the handlers' numbers.
-use Rattle.std.proofs.Common.{◌≡◌, ◌≢◌, ◌∙◌, ◌⊎◌, inl, inr, ℕ, zero, suc, ◌+◌, ◌<◌, ◌≤◌, List, [], ◌∷◌, ◌++◌, length, replicate, drop, get_or, Option, Some, None, All, refl, sym, ap, subst, arith, append_assoc, add-one, slice_get, slice_set, length-set}
+use Rattle.std.proofs.Common.{◌≡◌, ◌∙◌, ◌⊎◌, inl, inr, ℕ, zero, suc, ◌+◌, ◌<◌, ◌≤◌, List, [], ◌∷◌, ◌++◌, length, replicate, drop, get_or, Option, Some, None, All, refl, sym, ap, subst, arith, append_assoc, slice_get, slice_set, length-set}
 use Rattle.std.proofs.lemmas.Bool.{cases_eq, cases_lt}
 use Rattle.std.proofs.lemmas.List.{drop_all, length-append, replicate-append-replicate}
 use Rattle.std.proofs.Math.Seq.{drop-cons}
@@ -9,8 +9,8 @@ use Rattle.task_code.specs.declared.frame.Frame.{Frame}
 use Rattle.task_code.specs.declared.frame.Frames.{Frames}
 use Rattle.task_code.proofs.Lists.{set_same, set_other}
 use Rattle.stmt_code.specs.FrameOf.{frame_of}
-use Rattle.emit_code.specs.Delivery.{Entry, no_entry, entry_of}
-use Rattle.emit_code.specs.Framed.{entries_in, HasEntry}
+use Rattle.emit_code.specs.Delivery.{Entry, no_entry}
+use Rattle.emit_code.specs.Framed.{HasEntry}
 use Rattle.emit_code.proofs.Looked.{found, entry_looked, entry_here, entry_there}
 use Rattle.task_build.specs.CodeOf.{frames_from, end_of}
 use Rattle.task_build.specs.Tables.{entries_at, Agrees}

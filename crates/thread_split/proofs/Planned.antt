@@ -1,5 +1,5 @@
 -- What the lists of a plan have.
-use Rattle.std.proofs.Common.{◌≡◌, ◌≢◌, ◌↔◌, ℕ, zero, suc, ◌+◌, ◌<◌, ◌==◌, ◌||◌, inl, inr, List, [], ◌∷◌, ◌++◌, length, map, filter, take, set, get_or, slice_get, Bool, true, false, Some, All, Contains, refl, sym, ap, ◌∙◌, subst, arith, add-one}
+use Rattle.std.proofs.Common.{◌≡◌, ℕ, zero, suc, ◌+◌, ◌<◌, ◌==◌, ◌||◌, inl, inr, List, [], ◌∷◌, ◌++◌, length, map, filter, take, set, get_or, slice_get, Bool, true, false, Some, All, refl, sym, ap, ◌∙◌, subst, arith, add-one}
 use Rattle.std.proofs.lemmas.Bool.{cases_eq, cases_lt, eq-eqb, ne_eqb, eqb-true}
 use Rattle.std.proofs.lemmas.List.{map-append, get_or_append_left}
 use Rattle.std.proofs.lemmas.List.Folds.{list_any_more}
@@ -10,15 +10,15 @@ use Rattle.std.proofs.Math.Seq.{get_or-append_seam}
 use Rattle.std.specs.List.{list_any}
 use Rattle.std.specs.List.Sorted.{IsStrictlyIncreasing}
 use Rattle.tower_syntax.specs.Arch.{Arch, Source, Handler}
-use Rattle.tower_syntax.specs.Graph.{handler, no_handler, handler_numbers, numbers_before, reached_by, Reaches}
+use Rattle.tower_syntax.specs.Graph.{handler, no_handler, handler_numbers, numbers_before, reached_by}
 use Rattle.tower_syntax.specs.WellNumbered.{AreListeners, IsWellNumbered}
-use Rattle.channel_graph.proofs.Members.{In, Passes, any_has, has_any, filter_has, has_filter, number_below, below_number, length-numbers, In-get_or, In-from_contains, contains_from_In, filter-agree, or_right}
+use Rattle.channel_graph.proofs.Members.{In, any_has, has_any, filter_has, has_filter, number_below, below_number, length-numbers, In-get_or, In-from_contains, contains_from_In, filter-agree, or_right}
 use Rattle.channel_graph.proofs.Listed.{numbers_before-suc}
 use Rattle.channel_graph.proofs.Closed.{kept, reached_closed, listed_is_reached, reached_is_listed}
 use Rattle.channel_graph.proofs.ReachedList.{found_reaches}
 use Rattle.thread_split.specs.declared.plan.TaskPlan.{TaskPlan}
-use Rattle.thread_split.specs.Plans.{works_on, monitors_of, priority_of, plan_of, AreWorkedOn}
-use Rattle.thread_split.specs.Laws.{Works, IsPlan, PlansHold}
+use Rattle.thread_split.specs.Plans.{works_on, monitors_of, plan_of, AreWorkedOn}
+use Rattle.thread_split.specs.Laws.{Works, PlansHold}
 
 -- ---- the handlers
 

@@ -1,4 +1,4 @@
-use Rattle.std.proofs.Common.{◌≡◌, ◌∙◌, sym, ap}
+use Rattle.std.proofs.Common.{sym, ap}
 use Rattle.emit_code.proofs.Looked.{both}
 use Rattle.emit_code.proofs.delivery.own_frame.Goals as goal
 

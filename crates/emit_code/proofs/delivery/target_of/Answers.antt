@@ -1,4 +1,4 @@
-use Rattle.std.proofs.Common.{◌≡◌, ◌∙◌, sym, ap}
+use Rattle.std.proofs.Common.{sym, ap}
 use Rattle.emit_code.proofs.Looked.{both, no_frame, no_frames, no_place}
 use Rattle.emit_code.proofs.delivery.target_of.Goals as goal
 

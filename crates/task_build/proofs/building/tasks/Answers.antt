@@ -1,4 +1,4 @@
-use Rattle.std.proofs.Common.{◌≡◌, ◌∙◌, ◌≤◌, length, get_or, slice_get, ap, sym, arith}
+use Rattle.std.proofs.Common.{◌∙◌, ◌≤◌, length, get_or, slice_get, ap, sym, arith}
 use Rattle.std.proofs.lemmas.List.{take_all}
 use Rattle.std.proofs.lemmas.Option.{slice_get-get_or}
 use Rattle.thread_split.specs.declared.plan.TaskPlan.{TaskPlan}

@@ -1,10 +1,9 @@
-use Rattle.std.proofs.Common.{◌≡◌, ◌∙◌, ◌<◌, length, replicate, get_or, ap, sym, subst, arith}
+use Rattle.std.proofs.Common.{◌≡◌, ◌∙◌, length, replicate, get_or, ap, sym, subst, arith}
 use Rattle.std.proofs.lemmas.List.{get_or-replicate}
-use Rattle.tower_syntax.specs.Graph.{reached_by}
 use Rattle.thread_split.specs.declared.plan.TaskPlan.{TaskPlan}
 use Rattle.thread_split.proofs.Planned.{reached_below, plans_hold}
 use Rattle.emit_code.specs.Framed.{entries_in}
-use Rattle.task_build.specs.CodeOf.{head_code, frames_from}
+use Rattle.task_build.specs.CodeOf.{frames_from}
 use Rattle.task_build.specs.Tables.{entries_at, Agrees, head_of}
 use Rattle.task_code.specs.Piece.{end}
 use Rattle.task_build.proofs.Tabled.{replicate_length}

@@ -1,4 +1,4 @@
-use Rattle.std.proofs.Common.{◌≡◌, ◌∙◌, ◌<◌, ◌≤◌, ◌++◌, length, map, get_or, ap, arith}
+use Rattle.std.proofs.Common.{◌∙◌, ◌<◌, ◌≤◌, ◌++◌, length, map, get_or, ap, arith}
 use Rattle.tower_syntax.specs.Arch.{Arch}
 use Rattle.task_code.specs.Piece.{listed}
 use Rattle.emit_code.specs.Framed.{entries_in}
