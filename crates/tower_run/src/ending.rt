@@ -65,13 +65,7 @@ fn put_waited<O: Sink>(
 }
 
 /// Puts the last lines of a run.
-fn put_last<O: Sink>(
-    page: &mut Page,
-    out: &mut O,
-    arch: &Arch,
-    machine: &Machine,
-    end: End,
-) -> Put
+fn put_last<O: Sink>(page: &mut Page, out: &mut O, arch: &Arch, machine: &Machine, end: End) -> Put
     ensures { PutsOver O.written O.faults out.old page.old.held out.new page.new.held (last_text end) result }
 {
     match put_paged(page, out, arch, machine, Piece::Count(end.count)) {

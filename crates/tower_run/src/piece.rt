@@ -12,7 +12,9 @@ ghost use Rattle.tower_run.specs.Paging.{PutsOver};
 use crate::page::Page;
 use task_machine::Machine;
 use tower_io::{Put, Sink};
-use tower_report::{put_count, put_end, put_held, put_lost, put_mark, put_out, put_states, put_waits};
+use tower_report::{
+    put_count, put_end, put_held, put_lost, put_mark, put_out, put_states, put_waits,
+};
 use tower_syntax::{Arch, Mark};
 
 /// A piece of the text of a run. Monitors and sources are numbers.

@@ -34,13 +34,7 @@ fn number(truth: bool) -> u64
 }
 
 /// The task that a rule names for `k` executes an instruction, if one is ready. The limit is not met.
-fn advance<P: Policy, O: Sink>(
-    job: &Job,
-    run: &mut Going,
-    policy: &P,
-    k: u32,
-    out: &mut O,
-) -> Turn
+fn advance<P: Policy, O: Sink>(job: &Job, run: &mut Going, policy: &P, k: u32, out: &mut O) -> Turn
     requires going { IsGoing O.written O.faults job.now run.old out.old }
     requires less { run.old.count < job.now.limit }
     requires waits { run.old.waits ≤ run.old.count }
