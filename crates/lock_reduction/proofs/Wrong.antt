@@ -11,7 +11,7 @@ use Rattle.tower_syntax.specs.declared.event.Mark.{Mark}
 use Rattle.tower_syntax.specs.declared.event.Mark.TheVariants as mark
 use Rattle.tower_syntax.specs.Arch.{Arch, Events, tick}
 use Rattle.tower_syntax.specs.Examples.{clock}
-use Rattle.tower_syntax.specs.Weights.{code, memory}
+use Rattle.tower_syntax.specs.Weights.{cost, code, memory}
 use Rattle.tower_meaning.specs.Atomic.{Atomic, Fit, FitsEntry, replay}
 use Rattle.tower_meaning.specs.System.{System, Item, system_of}
 use Rattle.task_code.specs.declared.program.Task.{Task}
@@ -22,51 +22,61 @@ use Rattle.task_code.specs.Own.{Filled, Own}
 use Rattle.task_code.specs.Holds.{HoldLists, buffers_at}
 use Rattle.task_code.specs.Does.{Does, Locks, does, need, popped, returned, indexed, with_lock, without_lock, with_buffer, at_zero}
 use Rattle.task_code.specs.Machine.{Free}
-use Rattle.task_code.specs.Standing.{IsStuck, standing}
+use Rattle.task_code.specs.Standing.{IsStuck, IsIdle, standing}
 use Rattle.task_code.specs.Run.{Run, Step, Turn, Event, reached}
 use Rattle.task_alone.specs.Alone.{FirstIsOf}
 use Rattle.task_alone.specs.SettingOf.{setting_of, buffer_places}
 use Rattle.lock_reduction.specs.Shaped.{Shaped, BeginsWithTake}
 use Rattle.lock_reduction.specs.Sound.{Agrees, IsDue, RanLast, LastHolds}
 use Rattle.lock_reduction.specs.Reduce.{Alone, Sound}
-use Rattle.lock_reduction.specs.Wrong.{IsRefuted, counting, never_locks, reads_before_lock, stores_after_unlock, locks_twice, tell, told, telling, delivers_before_unlock, delivers_in_reverse, emits_past_buffer, pair, paired, passing, locks_another, still, spins}
+use Rattle.lock_reduction.specs.Wrong.{Shows, SticksATask, MisfitsTheReplay, WritesOtherOutputs, LeavesOtherWords, HoldsOtherMessages, LocksAnotherMonitor, IdlesTooSoon, CostsTooMuch, IsRefuted, counting, adds_two, drops, tells_twice, never_locks, reads_before_lock, stores_after_unlock, locks_twice, tell, told, telling, delivers_before_unlock, delivers_in_reverse, emits_past_buffer, pair, paired, passing, locks_another, still, spins}
 
--- ---- a run that shows it
+-- ---- each clause refuses what a run shows against it
 
--- what the run and the replay of its marks come to
-abbrev Shows : (System → Events → Run → Option Atomic) → System → Events → (Run → Option Atomic → Type 0) → Option Run → Type 0
-Shows f system events P None = ⊥
-Shows f system events P (Some r) = P r (f system events r)
+same_replay : (arch : Arch) (events : Events) (r : Run) (a b : Atomic) → replay (system_of arch) events r.marks ≡ Some a → replay (system_of arch) events r.marks ≡ Some b → a ≡ b
+same_replay arch events r a b e f = same_Some a b (sym e ∙ f)
 
-abbrev replayed : System → Events → Run → Option Atomic
-replayed system events r = replay system events r.marks
+sticks : (arch : Arch) (p : Program) → Shows arch p (SticksATask arch p) → Sound arch p → ⊥
+sticks arch p s sound = let g = sound.agrees s.events s.steps s.run s.fits s.reaches in g.1.never_stuck s.shows.0 s.shows.1 s.shows.2
 
--- a run of which P holds, where P and the agreement are at odds
-refute : (arch : Arch) (p : Program) (events : Events) (steps : List Step) → Fit arch events → (P : Run → Option Atomic → Type 0)
-    → Shows replayed (system_of arch) events P (reached p events steps)
-    → ((r : Run) (a : Atomic) → Agrees (setting_of arch) p events r a → P r (Some a) → ⊥)
-    → Sound arch p → ⊥
-refute arch p events steps fit P shows odds sound = go (reached p events steps) refl shows
-  where
-    at_run : (r : Run) → reached p events steps ≡ Some r → P r (replayed (system_of arch) events r) → ⊥
-    at_run r e h =
-        let g = sound.agrees events steps r fit e in
-        odds r g.0 g.1 (subst (P r) g.1.replayed h)
+misfits : (arch : Arch) (p : Program) → Shows arch p (MisfitsTheReplay arch p) → Sound arch p → ⊥
+misfits arch p s sound = let g = sound.agrees s.events s.steps s.run s.fits s.reaches in absurd (none-some g.0 (sym s.shows ∙ g.1.replayed))
 
-    go : (o : Option Run) → reached p events steps ≡ o → Shows replayed (system_of arch) events P o → ⊥
-    go None e h = h
-    go (Some r) e h = at_run r e h
+writes : (arch : Arch) (p : Program) → Shows arch p (WritesOtherOutputs arch p) → Sound arch p → ⊥
+writes arch p s sound =
+    let g = sound.agrees s.events s.steps s.run s.fits s.reaches in
+    let e = same_replay arch s.events s.run g.0 s.shows.0 g.1.replayed s.shows.1 in
+    s.shows.2 (subst (λ b. s.run.written ≡ map (λ o. (o.0, flat o.1)) b.outputs) e g.1.outputs)
 
--- a task is stuck
-stuck : (arch : Arch) (p : Program) (events : Events) (steps : List Step) → Fit arch events → (x : ℕ) → x < length p.tasks
-    → Shows replayed (system_of arch) events (λ r o. standing p events r.machine x ≡ IsStuck) (reached p events steps)
-    → Sound arch p → ⊥
-stuck arch p events steps fit x there shows = refute arch p events steps fit (λ r o. standing p events r.machine x ≡ IsStuck) shows (λ r a g h. g.never_stuck x there h)
+leaves : (arch : Arch) (p : Program) → Shows arch p (LeavesOtherWords arch p) → Sound arch p → ⊥
+leaves arch p s sound =
+    let g = sound.agrees s.events s.steps s.run s.fits s.reaches in
+    let e = same_replay arch s.events s.run g.0 s.shows.0 g.1.replayed s.shows.3 in
+    s.shows.5 (subst (λ b. slice_get (map flat b.monitors) s.shows.1 ≡ Some s.shows.2) e (g.1.monitors s.shows.1 s.shows.2 s.shows.4))
 
--- the outputs of the replay, flat
-abbrev outputs_of : Option Atomic → Option (List (ℕ × List ℤ))
-outputs_of None = None
-outputs_of (Some a) = Some (map (λ w. (w.0, flat w.1)) a.outputs)
+holds_other : (arch : Arch) (p : Program) → Shows arch p (HoldsOtherMessages arch p) → Sound arch p → ⊥
+holds_other arch p s sound =
+    let g = sound.agrees s.events s.steps s.run s.fits s.reaches in
+    s.shows.2 (subst (LastHolds (setting_of arch) s.events s.run) s.shows.1 g.1.last)
+
+locks_other : (arch : Arch) (p : Program) → Shows arch p (LocksAnotherMonitor arch p) → Sound arch p → ⊥
+locks_other arch p s sound =
+    let g = sound.agrees s.events s.steps s.run s.fits s.reaches in
+    let e = same_replay arch s.events s.run g.0 s.shows.0 g.1.replayed s.shows.6 in
+    s.shows.10 (subst (λ b. IsDue (setting_of arch) b s.shows.1 s.shows.2) e (g.1.locks_due s.shows.1 s.shows.3 s.shows.4 s.shows.2 s.shows.5 s.shows.7 s.shows.8 s.shows.9))
+
+idles : (arch : Arch) (p : Program) → Shows arch p (IdlesTooSoon arch p) → Sound arch p → ⊥
+idles arch p s sound =
+    let g = sound.agrees s.events s.steps s.run s.fits s.reaches in
+    let e = same_replay arch s.events s.run g.0 s.shows.0 g.1.replayed s.shows.2 in
+    s.shows.5 (subst (λ b. slice_get b.pending s.shows.1 ≡ Some []) e (g.1.idle s.shows.1 s.shows.3 s.shows.4))
+
+not_both : (a b : ℕ) → a < b → b ≤ a → ⊥
+not_both a b e f = omega arith
+
+costs_more : (arch : Arch) (p : Program) → Shows arch p (CostsTooMuch arch p) → Sound arch p → ⊥
+costs_more arch p s sound =
+    not_both (cost arch s.shows.0) (slice_index s.run.since s.shows.0) s.shows.2 (sound.counts s.events s.steps s.run s.fits s.reaches s.shows.0 s.shows.1)
 
 -- the first number of what is written
 abbrev first_written : List (ℕ × List ℤ) → ℕ
@@ -104,19 +114,29 @@ ticking_fits = record { kinds = refl; depths = refl; few_ticks = omega arith; en
 abbrev ten_and : ℕ → List Step
 ten_and n = replicate 10 Event ++ replicate n (Turn 0)
 
-pub no_lock : IsRefuted clock never_locks
+no_lock_shows : Shows clock never_locks (SticksATask clock never_locks)
+unfolding does need popped indexed with_lock without_lock
+no_lock_shows = record { events = ticking; steps = ten_and 3; run = _; fits = ticking_fits; reaches = refl; shows = (0, omega arith, refl) }
+
+pub no_lock : IsRefuted clock never_locks SticksATask
 unfolding does need popped indexed with_lock without_lock
 no_lock = record {
   shaped = record { tasks = refl; monitors = refl; outputs = refl; begins = All-cons BeginsWithTake _ [] (0, refl) (All-nil BeginsWithTake); buffers = refl; memory = omega arith; code = omega arith };
-  unsound = stuck clock never_locks ticking (ten_and 3) ticking_fits 0 (omega arith) refl;
+  breaks = no_lock_shows;
+  unsound = sticks clock never_locks no_lock_shows;
   not_alone = λ alone. ((alone 0 _ refl 4).1.1 (word (pos 1)) refl).1.1.1;
 }
 
-pub early_read : IsRefuted clock reads_before_lock
+early_read_shows : Shows clock reads_before_lock (SticksATask clock reads_before_lock)
+unfolding does need popped indexed with_lock without_lock
+early_read_shows = record { events = ticking; steps = ten_and 3; run = _; fits = ticking_fits; reaches = refl; shows = (0, omega arith, refl) }
+
+pub early_read : IsRefuted clock reads_before_lock SticksATask
 unfolding does need popped indexed with_lock without_lock
 early_read = record {
   shaped = record { tasks = refl; monitors = refl; outputs = refl; begins = All-cons BeginsWithTake _ [] (0, refl) (All-nil BeginsWithTake); buffers = refl; memory = omega arith; code = omega arith };
-  unsound = stuck clock reads_before_lock ticking (ten_and 3) ticking_fits 0 (omega arith) refl;
+  breaks = early_read_shows;
+  unsound = sticks clock reads_before_lock early_read_shows;
   not_alone = λ alone. ((alone 0 _ refl 4).1.1 (word (pos 1)) refl).1.1.1;
 }
 
@@ -126,24 +146,66 @@ one_not_zero e = absurd (cc e)
 zero_value : Value
 zero_value = parts (value (word (pos 0)) no_values)
 
-pub late_store : IsRefuted clock stores_after_unlock
+late_store_shows : Shows clock stores_after_unlock (LeavesOtherWords clock stores_after_unlock)
+unfolding does need popped indexed with_lock without_lock zero_value
+late_store_shows = record { events = ticking; steps = ten_and 8; run = _; fits = ticking_fits; reaches = refl; shows = (_, 0, pos 0 ∷ [], refl, refl, λ e. one_not_zero (same_Some (pos 0 ∷ []) (pos 1 ∷ []) (sym e))) }
+
+pub late_store : IsRefuted clock stores_after_unlock LeavesOtherWords
 unfolding does need popped indexed with_lock without_lock zero_value
 late_store = record {
   shaped = record { tasks = refl; monitors = refl; outputs = refl; begins = All-cons BeginsWithTake _ [] (0, refl) (All-nil BeginsWithTake); buffers = refl; memory = omega arith; code = omega arith };
-  unsound =
-      refute clock stores_after_unlock ticking (ten_and 8) ticking_fits
-      (λ r o. (slice_get r.machine.locks 0 ≡ Some (Free (pos 0 ∷ []))) × (option_map (λ a. slice_get (map flat a.monitors) 0) o ≡ Some (Some (pos 1 ∷ []))))
-      (refl, refl)
-      (λ r a g h. one_not_zero (same_Some _ _ (sym (g.monitors 0 (pos 0 ∷ []) h.0) ∙ same_Some _ _ h.1)));
+  breaks = late_store_shows;
+  unsound = leaves clock stores_after_unlock late_store_shows;
   not_alone = λ alone. one_not_zero (((((((((alone 0 _ refl 8).1.1 (word (pos 1)) refl).1.1 zero_value refl).1).1).1).1).1).1.0);
 }
 
-pub second_lock : IsRefuted clock locks_twice
+second_lock_shows : Shows clock locks_twice (MisfitsTheReplay clock locks_twice)
+unfolding does need popped indexed with_lock without_lock zero_value
+second_lock_shows = record { events = ticking; steps = ten_and 11; run = _; fits = ticking_fits; reaches = refl; shows = refl }
+
+pub second_lock : IsRefuted clock locks_twice MisfitsTheReplay
 unfolding does need popped indexed with_lock without_lock zero_value
 second_lock = record {
   shaped = record { tasks = refl; monitors = refl; outputs = refl; begins = All-cons BeginsWithTake _ [] (0, refl) (All-nil BeginsWithTake); buffers = refl; memory = omega arith; code = omega arith };
-  unsound = refute clock locks_twice ticking (ten_and 11) ticking_fits (λ r o. o ≡ None) refl (λ r a g h. absurd (none-some a (sym h)));
+  breaks = second_lock_shows;
+  unsound = misfits clock locks_twice second_lock_shows;
   not_alone = λ alone. ((((((((((alone 0 _ refl 10).1.1 (word (pos 1)) refl).1.1 zero_value refl).1).1).1).1).1).1).1.2).1.0;
+}
+
+two_is_none : (pos 2 ∷ []) ≡ (pos 1 ∷ []) → ⊥
+two_is_none e = absurd (cc e)
+
+greater_shows : Shows clock adds_two (LeavesOtherWords clock adds_two)
+unfolding does need popped indexed with_lock without_lock zero_value
+greater_shows = record { events = ticking; steps = ten_and 9; run = _; fits = ticking_fits; reaches = refl; shows = (_, 0, pos 2 ∷ [], refl, refl, λ e. two_is_none (same_Some (pos 2 ∷ []) (pos 1 ∷ []) (sym e))) }
+
+pub greater_sum : IsRefuted clock adds_two LeavesOtherWords
+unfolding does need popped indexed with_lock without_lock zero_value
+greater_sum = record {
+  shaped = record { tasks = refl; monitors = refl; outputs = refl; begins = All-cons BeginsWithTake _ [] (0, refl) (All-nil BeginsWithTake); buffers = refl; memory = omega arith; code = omega arith };
+  breaks = greater_shows;
+  unsound = leaves clock adds_two greater_shows;
+  not_alone = λ alone. two_is_none ((((((((((alone 0 _ refl 9).1.1 (word (pos 1)) refl).1.1 zero_value refl).1).1).1).1).1).1).1.0);
+}
+
+some_left : (i : Item) → (i ∷ []) ≡ [] → ⊥
+some_left i e = absurd (cc e)
+
+abbrev how_many : Option (List Item) → ℕ
+how_many None = 0
+how_many (Some items) = length items
+
+dropped_shows : Shows clock drops (IdlesTooSoon clock drops)
+unfolding does need popped indexed with_lock without_lock
+dropped_shows = record { events = ticking; steps = ten_and 2; run = _; fits = ticking_fits; reaches = refl; shows = (_, 0, refl, omega arith, refl, λ e. one_is_none (ap how_many e)) }
+
+pub dropped : IsRefuted clock drops IdlesTooSoon
+unfolding does need popped indexed with_lock without_lock
+dropped = record {
+  shaped = record { tasks = refl; monitors = refl; outputs = refl; begins = All-cons BeginsWithTake _ [] (0, refl) (All-nil BeginsWithTake); buffers = refl; memory = omega arith; code = omega arith };
+  breaks = dropped_shows;
+  unsound = idles clock drops dropped_shows;
+  not_alone = λ alone. some_left (to.Handler 0, word (pos 1)) (((alone 0 _ refl 3).1.1 (word (pos 1)) refl).1.1.0);
 }
 
 -- ---- one message for two outputs
@@ -157,27 +219,43 @@ told_and n = Event ∷ replicate n (Turn 0)
 no_words : Value
 no_words = parts no_values
 
-pub early_delivery : IsRefuted tell delivers_before_unlock
+early_delivery_shows : Shows tell delivers_before_unlock (SticksATask tell delivers_before_unlock)
+unfolding does need popped indexed with_lock without_lock with_buffer no_words
+early_delivery_shows = record { events = told; steps = told_and 7; run = _; fits = told_fits; reaches = refl; shows = (0, omega arith, refl) }
+
+pub early_delivery : IsRefuted tell delivers_before_unlock SticksATask
 unfolding does need popped indexed with_lock without_lock with_buffer no_words
 early_delivery = record {
   shaped = record { tasks = refl; monitors = refl; outputs = refl; begins = All-cons BeginsWithTake _ [] (0, refl) (All-nil BeginsWithTake); buffers = refl; memory = omega arith; code = omega arith };
-  unsound = stuck tell delivers_before_unlock told (told_and 7) told_fits 0 (omega arith) refl;
+  breaks = early_delivery_shows;
+  unsound = sticks tell delivers_before_unlock early_delivery_shows;
   not_alone = λ alone. ((((((((alone 0 _ refl 8).1.1 (word (pos 5)) refl).1.1 no_words refl).1).1).1).1).1).1;
 }
 
-first_is_none : (ws : List (ℕ × List ℤ)) → ws ≡ (1, pos 5 ∷ []) ∷ (0, pos 5 ∷ []) ∷ [] → ws ≡ (0, pos 5 ∷ []) ∷ (1, pos 5 ∷ []) ∷ [] → ⊥
-first_is_none ws e f = one_is_none (ap first_written (sym e ∙ f))
+reversed_delivery_shows : Shows tell delivers_in_reverse (WritesOtherOutputs tell delivers_in_reverse)
+unfolding does need popped indexed with_lock without_lock with_buffer no_words
+reversed_delivery_shows = record { events = told; steps = told_and 10; run = _; fits = told_fits; reaches = refl; shows = (_, refl, λ e. one_is_none (ap first_written e)) }
 
-pub reversed_delivery : IsRefuted tell delivers_in_reverse
+pub reversed_delivery : IsRefuted tell delivers_in_reverse WritesOtherOutputs
 unfolding does need popped indexed with_lock without_lock with_buffer no_words
 reversed_delivery = record {
   shaped = record { tasks = refl; monitors = refl; outputs = refl; begins = All-cons BeginsWithTake _ [] (0, refl) (All-nil BeginsWithTake); buffers = refl; memory = omega arith; code = omega arith };
-  unsound =
-      refute tell delivers_in_reverse told (told_and 10) told_fits
-      (λ r o. (r.written ≡ (1, pos 5 ∷ []) ∷ (0, pos 5 ∷ []) ∷ []) × (outputs_of o ≡ Some ((0, pos 5 ∷ []) ∷ (1, pos 5 ∷ []) ∷ [])))
-      (refl, refl)
-      (λ r a g h. first_is_none r.written h.0 (g.outputs ∙ same_Some _ _ h.1));
+  breaks = reversed_delivery_shows;
+  unsound = writes tell delivers_in_reverse reversed_delivery_shows;
   not_alone = λ alone. one_is_none (sym ((((((((((alone 0 _ refl 9).1.1 (word (pos 5)) refl).1.1 no_words refl).1).1).1).1).1).1.2).1.0));
+}
+
+third_shows : Shows tell tells_twice (MisfitsTheReplay tell tells_twice)
+unfolding does need popped indexed with_lock without_lock with_buffer no_words
+third_shows = record { events = told; steps = told_and 11; run = _; fits = told_fits; reaches = refl; shows = refl }
+
+pub third_output : IsRefuted tell tells_twice MisfitsTheReplay
+unfolding does need popped indexed with_lock without_lock with_buffer no_words
+third_output = record {
+  shaped = record { tasks = refl; monitors = refl; outputs = refl; begins = All-cons BeginsWithTake _ [] (0, refl) (All-nil BeginsWithTake); buffers = refl; memory = omega arith; code = omega arith };
+  breaks = third_shows;
+  unsound = misfits tell tells_twice third_shows;
+  not_alone = λ alone. ((((((((((((alone 0 _ refl 12).1.1 (word (pos 5)) refl).1.1 no_words refl).1).1).1).1).1).1.2).1.2).1.2).1);
 }
 
 abbrev not_emitted : Own
@@ -209,15 +287,16 @@ last_is_at_odds r marks own w =
     let pending : Some ((to.Handler 0, word (pos 5)) ∷ []) ≡ Some ((to.Handler w.h, w.message) ∷ w.rest) = ap (λ o. elim o [ None ↦ None | Some a ↦ slice_get a.pending 0 ]) before ∙ w.first in
     holds_none w.h w.message w.value w.own (ap (λ o. handler_of (first_item o)) (sym pending)) (ap (λ o. (first_item o).1) (sym pending)) (same_Some _ _ (sym w.has_own ∙ own)) w.holds
 
-pub bare_delivery : IsRefuted tell emits_past_buffer
+bare_delivery_shows : Shows tell emits_past_buffer (HoldsOtherMessages tell emits_past_buffer)
+unfolding does need popped indexed with_lock without_lock with_buffer no_words
+bare_delivery_shows = record { events = told; steps = told_and 3; run = _; fits = told_fits; reaches = refl; shows = (0, refl, λ w. last_is_at_odds _ refl refl w) }
+
+pub bare_delivery : IsRefuted tell emits_past_buffer HoldsOtherMessages
 unfolding does need popped indexed with_lock without_lock with_buffer no_words
 bare_delivery = record {
   shaped = record { tasks = refl; monitors = refl; outputs = refl; begins = All-cons BeginsWithTake _ [] (0, refl) (All-nil BeginsWithTake); buffers = refl; memory = omega arith; code = omega arith };
-  unsound =
-      refute tell emits_past_buffer told (told_and 3) told_fits
-      (λ r o. (r.marks ≡ mark.Arrive ∷ mark.Start 0 ∷ mark.Run 0 ∷ []) × (slice_get r.machine.tasks 0 ≡ Some not_emitted) × (r.ran ≡ Some 0))
-      (refl, refl, refl)
-      (λ r a g h. last_is_at_odds r h.0 h.1 (subst (LastHolds (setting_of tell) told r) h.2 g.last));
+  breaks = bare_delivery_shows;
+  unsound = holds_other tell emits_past_buffer bare_delivery_shows;
   not_alone = λ alone. one_is_none (sym (((alone 0 _ refl 3).1.1 (word (pos 5)) refl).1.1 no_words refl).1.1.0);
 }
 
@@ -226,22 +305,17 @@ bare_delivery = record {
 paired_fits : Fit pair paired
 paired_fits = record { kinds = refl; depths = refl; few_ticks = omega arith; entries = All-cons (FitsEntry pair) _ [] (refl, refl) (All-nil (FitsEntry pair)) }
 
-abbrev IsAtLock : Program → Task → ℕ → Option Own → Type 0
-IsAtLock p t m None = ⊥
-IsAtLock p t m (Some own) = (f : List ℤ → Own) × (does p t own ≡ Locks m f)
-
-lock_is_at_odds : (r : Run) (a : Atomic) → Agrees (setting_of pair) locks_another paired r a → (o : Option Own) → slice_get r.machine.tasks 1 ≡ o → IsAtLock locks_another (passing 2 0) 0 o
-    → slice_get a.pending 1 ≡ Some ((to.Handler 2, word (pos 5)) ∷ []) → ⊥
-lock_is_at_odds r a g None e at_lock pending = at_lock
-lock_is_at_odds r a g (Some own) e at_lock pending =
-    let due = g.locks_due 1 (passing 2 0) own 0 at_lock.0 refl e at_lock.1 in
-    let is : due.0 ≡ (to.Handler 2, word (pos 5)) ∷ [] = same_Some _ _ (sym due.1 ∙ pending) in
-    one_is_none (subst (FirstIsOf (setting_of pair) 0) is due.2)
+not_due : (items : List Item) → items ≡ (to.Handler 2, word (pos 5)) ∷ [] → FirstIsOf (setting_of pair) 0 items → ⊥
+not_due items e first = one_is_none (subst (FirstIsOf (setting_of pair) 0) e first)
 
 some_value : Value
 some_value = parts (value (word (pos 0)) no_values)
 
-pub other_lock : IsRefuted pair locks_another
+other_lock_shows : Shows pair locks_another (LocksAnotherMonitor pair locks_another)
+unfolding does need popped indexed with_lock without_lock with_buffer some_value
+other_lock_shows = record { events = paired; steps = Event ∷ replicate 8 (Turn 1); run = _; fits = paired_fits; reaches = refl; shows = (_, 1, 0, passing 2 0, _, _, refl, refl, refl, refl, λ due. not_due due.0 (same_Some due.0 ((to.Handler 2, word (pos 5)) ∷ []) (sym due.1)) due.2) }
+
+pub other_lock : IsRefuted pair locks_another LocksAnotherMonitor
 unfolding does need popped indexed with_lock without_lock with_buffer some_value
 other_lock = record {
   shaped = record {
@@ -253,11 +327,8 @@ other_lock = record {
     memory = omega arith;
     code = omega arith;
   };
-  unsound =
-      refute pair locks_another paired (Event ∷ replicate 8 (Turn 1)) paired_fits
-      (λ r o. IsAtLock locks_another (passing 2 0) 0 (slice_get r.machine.tasks 1) × (option_map (λ a. slice_get a.pending 1) o ≡ Some (Some ((to.Handler 2, word (pos 5)) ∷ []))))
-      ((_, refl), refl)
-      (λ r a g h. lock_is_at_odds r a g (slice_get r.machine.tasks 1) refl h.0 (same_Some _ _ h.1));
+  breaks = other_lock_shows;
+  unsound = locks_other pair locks_another other_lock_shows;
   not_alone = λ alone. one_is_none ((((((((((alone 1 _ refl 9).1.1 (word (pos 5)) refl).1.1 some_value refl).1).1).1).1).1).1.2).1.0);
 }
 
@@ -272,10 +343,15 @@ heard_fits = record { kinds = refl; depths = refl; few_ticks = omega arith; entr
 too_many : 65 ≤ 64 → ⊥
 too_many e = omega arith
 
-pub spinning : IsRefuted still spins
+spinning_shows : Shows still spins (CostsTooMuch still spins)
+unfolding does need popped indexed with_lock without_lock with_buffer
+spinning_shows = record { events = heard; steps = Event ∷ replicate 65 (Turn 0); run = _; fits = heard_fits; reaches = refl; shows = (0, omega arith, omega arith) }
+
+pub spinning : IsRefuted still spins CostsTooMuch
 unfolding does need popped indexed with_lock without_lock with_buffer
 spinning = record {
   shaped = record { tasks = refl; monitors = refl; outputs = refl; begins = All-cons BeginsWithTake _ [] (0, refl) (All-nil BeginsWithTake); buffers = refl; memory = omega arith; code = omega arith };
-  unsound = λ sound. too_many (sound.counts heard (Event ∷ replicate 65 (Turn 0)) _ heard_fits refl 0 (omega arith));
+  breaks = spinning_shows;
+  unsound = costs_more still spins spinning_shows;
   not_alone = λ alone. too_many (((((((((((((((((((((((((((((((((((((((((((((((((((((((((((((((((((alone 0 _ refl 66).1.1 (word (pos 5)) refl).1).1).1).1).1).1).1).1).1).1).1).1).1).1).1).1).1).1).1).1).1).1).1).1).1).1).1).1).1).1).1).1).1).1).1).1).1).1).1).1).1).1).1).1).1).1).1).1).1).1).1).1).1).1).1).1).1).1).1).1).1).1).1).1).0);
 }

@@ -20,6 +20,12 @@ abbrev pub NoneWaitsForItself : Program → Events → Run → Type 0
 NoneWaitsForItself p events r =
     (x m k : ℕ) → standing p events r.machine x ≡ IsWaiting m → slice_get (map held_monitor r.machine.tasks) x ≢ Some (Some k)
 
+-- where a task waits, it is not so that none can step
+abbrev pub NoDeadlock : Program → Events → Run → Type 0
+NoDeadlock p events r =
+    (x m : ℕ) → x < length p.tasks → standing p events r.machine x ≡ IsWaiting m
+    → ((y : ℕ) → y < length p.tasks → standing p events r.machine y ≢ IsReady) → ⊥
+
 -- where no task can step, all are idle and no message waits
 abbrev pub RestsIdle : Program → Events → Run → Type 0
 RestsIdle p events r =

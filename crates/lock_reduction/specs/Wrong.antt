@@ -1,9 +1,9 @@
 -- Small systems, each with programs that are wrong in one way, and the event record over which it shows.
-use Rattle.std.specs.Prelude.{ℕ, pos, List, [], ◌∷◌, ◌++◌, replicate, Some, None, codes}
+use Rattle.std.specs.Prelude.{◌≡◌, ◌≢◌, ℕ, ◌<◌, ℤ, pos, List, [], ◌∷◌, ◌++◌, length, map, Some, None, codes, slice_get, slice_index}
 use Rattle.tower_types.specs.declared.scalar.Scalar.TheVariants.{U8, U32}
 use Rattle.tower_types.specs.declared.scalar.BinOp.TheVariants as op
 use Rattle.tower_types.specs.Ty.{scalar}
-use Rattle.tower_types.specs.Value.{word}
+use Rattle.tower_types.specs.Value.{word, flat}
 use Rattle.tower_syntax.specs.declared.body.Root.TheVariants.{Param, State}
 use Rattle.tower_syntax.specs.declared.arch.SourceKind.TheVariants.{Signal}
 use Rattle.tower_syntax.specs.declared.arch.On.TheVariants as on
@@ -11,17 +11,78 @@ use Rattle.tower_syntax.specs.declared.arch.Listener.TheVariants as to
 use Rattle.tower_syntax.specs.Tree.{set, emit}
 use Rattle.tower_syntax.specs.Arch.{Arch, signal, Events}
 use Rattle.tower_syntax.specs.Examples as of
+use Rattle.tower_syntax.specs.Weights.{cost}
+use Rattle.tower_meaning.specs.System.{system_of}
+use Rattle.tower_meaning.specs.Atomic.{Atomic, Fit, replay}
 use Rattle.task_code.specs.declared.program.Buffer.{Buffer}
 use Rattle.task_code.specs.declared.program.Task.{Task}
 use Rattle.task_code.specs.declared.program.Instr.{Instr}
 use Rattle.task_code.specs.declared.program.Instr.TheVariants.{Push, Ld, Ldm, Stm, Bin, Jmp, Take, Lock, Unlock, Out, Bclr, Bput, Badd}
 use Rattle.task_code.specs.Program.{Program}
+use Rattle.task_code.specs.Own.{Own}
+use Rattle.task_code.specs.Does.{Locks, does}
+use Rattle.task_code.specs.Machine.{Free}
+use Rattle.task_code.specs.Standing.{IsStuck, IsIdle, standing}
+use Rattle.task_code.specs.Run.{Run, Step, reached}
+use Rattle.task_alone.specs.SettingOf.{setting_of}
+use Rattle.lock_reduction.specs.Sound.{IsDue, RanLast}
 use Rattle.lock_reduction.specs.Shaped.{Shaped}
 use Rattle.lock_reduction.specs.Reduce.{Alone, Sound}
 
--- a program of the system's shape that is not sound, and not right alone either
-pub record IsRefuted (arch : Arch) (p : Program) : Type 0 where
+-- ---- what a run of a program can show against it
+
+-- some run of a record that fits shows this
+pub record Shows (arch : Arch) (p : Program) (What : Events → Run → Type 0) : Type 0 where
+  pub events : Events
+  pub steps : List Step
+  pub run : Run
+  pub fits : Fit arch events
+  pub reaches : reached p events steps ≡ Some run
+  pub shows : What events run
+
+-- a task is stuck
+abbrev pub SticksATask : Arch → Program → Events → Run → Type 0
+SticksATask arch p events r = (x : ℕ) × (x < length p.tasks) × (standing p events r.machine x ≡ IsStuck)
+
+-- the marks do not replay
+abbrev pub MisfitsTheReplay : Arch → Program → Events → Run → Type 0
+MisfitsTheReplay arch p events r = replay (system_of arch) events r.marks ≡ None
+
+-- the marks replay, and other outputs were written
+abbrev pub WritesOtherOutputs : Arch → Program → Events → Run → Type 0
+WritesOtherOutputs arch p events r = (a : Atomic) × (replay (system_of arch) events r.marks ≡ Some a) × (r.written ≢ map (λ o. (o.0, flat o.1)) a.outputs)
+
+-- the marks replay, and a free monitor has other words
+abbrev pub LeavesOtherWords : Arch → Program → Events → Run → Type 0
+LeavesOtherWords arch p events r =
+    (a : Atomic) × (m : ℕ) × (ws : List ℤ)
+    × (replay (system_of arch) events r.marks ≡ Some a) × (slice_get r.machine.locks m ≡ Some (Free ws)) × (slice_get (map flat a.monitors) m ≢ Some ws)
+
+-- a handler has run in a task, and its buffers hold other messages than its effect's
+abbrev pub HoldsOtherMessages : Arch → Program → Events → Run → Type 0
+HoldsOtherMessages arch p events r = (x : ℕ) × (r.ran ≡ Some x) × (RanLast (setting_of arch) events r x → ⊥)
+
+-- the marks replay, and a task is at the LOCK of a monitor that is not its first item's
+abbrev pub LocksAnotherMonitor : Arch → Program → Events → Run → Type 0
+LocksAnotherMonitor arch p events r =
+    (a : Atomic) × (x : ℕ) × (m : ℕ) × (t : Task) × (own : Own) × (f : (List ℤ → Own))
+    × (replay (system_of arch) events r.marks ≡ Some a) × (slice_get p.tasks x ≡ Some t) × (slice_get r.machine.tasks x ≡ Some own)
+    × (does p t own ≡ Locks m f) × (IsDue (setting_of arch) a x m → ⊥)
+
+-- the marks replay, and a task is idle that has something pending
+abbrev pub IdlesTooSoon : Arch → Program → Events → Run → Type 0
+IdlesTooSoon arch p events r =
+    (a : Atomic) × (x : ℕ)
+    × (replay (system_of arch) events r.marks ≡ Some a) × (x < length p.tasks) × (standing p events r.machine x ≡ IsIdle) × (slice_get a.pending x ≢ Some [])
+
+-- more instructions were executed since a TAKE than the source's cost
+abbrev pub CostsTooMuch : Arch → Program → Events → Run → Type 0
+CostsTooMuch arch p events r = (x : ℕ) × (x < length p.tasks) × (cost arch x < slice_index r.since x)
+
+-- a program of the system's shape, of which a run shows this: it is not sound, and not right alone either
+pub record IsRefuted (arch : Arch) (p : Program) (Breaks : Arch → Program → Events → Run → Type 0) : Type 0 where
   pub shaped : Shaped arch p
+  pub breaks : Shows arch p (Breaks arch p)
   pub unsound : Sound arch p → ⊥
   pub not_alone : Alone arch p → ⊥
 
@@ -46,6 +107,14 @@ stores_after_unlock = counting (Take 0 ∷ Lock 0 ∷ Push (pos 0) ∷ Push (pos
 abbrev pub locks_twice : Program
 locks_twice =
     counting (Take 0 ∷ Lock 0 ∷ Push (pos 0) ∷ Push (pos 0) ∷ Ldm 0 0 1 ∷ Push (pos 1) ∷ Bin op.Add U32 ∷ Stm 0 0 1 ∷ Unlock 0 ∷ Lock 0 ∷ Unlock 0 ∷ Jmp 0 ∷ [])
+
+-- it adds two
+abbrev pub adds_two : Program
+adds_two = counting (Take 0 ∷ Lock 0 ∷ Push (pos 0) ∷ Push (pos 0) ∷ Ldm 0 0 1 ∷ Push (pos 2) ∷ Bin op.Add U32 ∷ Stm 0 0 1 ∷ Unlock 0 ∷ Jmp 0 ∷ [])
+
+-- it takes a message, and does nothing with it
+abbrev pub drops : Program
+drops = counting (Take 0 ∷ Jmp 0 ∷ [])
 
 -- ---- one message for two outputs
 
@@ -91,6 +160,10 @@ delivers_in_reverse = telling (Take 0 ∷ Lock 0 ∷ emitted ++ Unlock 0 ∷ Out
 -- it gives the outputs their message, and does not emit it
 abbrev pub emits_past_buffer : Program
 emits_past_buffer = telling (Take 0 ∷ Lock 0 ∷ Unlock 0 ∷ Out 0 0 ∷ Out 1 0 ∷ Jmp 0 ∷ [])
+
+-- it tells the second output twice
+abbrev pub tells_twice : Program
+tells_twice = telling (Take 0 ∷ Lock 0 ∷ emitted ++ Unlock 0 ∷ Out 0 0 ∷ Out 1 0 ∷ Out 1 0 ∷ Jmp 0 ∷ [])
 
 -- ---- a handler that two sources reach
 

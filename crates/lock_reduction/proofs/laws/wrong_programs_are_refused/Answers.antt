@@ -27,3 +27,12 @@ returns-clause-emits_past_buffer c = wrong.bare_delivery
 
 pub returns-clause-locks_another : goal.returns-clause-locks_another
 returns-clause-locks_another c = wrong.other_lock
+
+pub returns-clause-adds_two : goal.returns-clause-adds_two
+returns-clause-adds_two c = wrong.greater_sum
+
+pub returns-clause-drops : goal.returns-clause-drops
+returns-clause-drops c = wrong.dropped
+
+pub returns-clause-tells_twice : goal.returns-clause-tells_twice
+returns-clause-tells_twice c = wrong.third_output
