@@ -41,7 +41,7 @@ fn tasks(
 }
 
 /// The program of an accepted system: one task for each source in file order. It is sound, and no greater than the
-/// system's weights say. It takes time and memory in proportion to the program and the text.
+/// system's weights say.
 pub fn build(alloc: Global, arch: &Checked) -> Result<Program, NoMemory>
     ensures program { IfOk result (λ p. p ≡ code_of arch.now) }
     ensures sound { IfOk result (Sound arch.now) }
