@@ -1,13 +1,13 @@
 -- What an accepted system gives to a program of its shape, and to its runs.
-use Rattle.std.proofs.Common.{◌≡◌, ◌∙◌, ℕ, zero, suc, ◌+◌, ◌<◌, ◌≤◌, max, ℤ, Bool, true, false, is_some, List, [], ◌∷◌, ◌++◌, length, map, All, Option, Some, None, refl, sym, ap, subst, arith, slice_get, slice_index, slice_index_or}
-use Rattle.std.specs.Prelude.{nat_lt, ◌&&◌, IsTrue}
+use Rattle.std.proofs.Common.{◌≡◌, ◌∙◌, ℕ, zero, suc, ◌<◌, ◌≤◌, true, false, is_some, List, [], ◌∷◌, ◌++◌, length, map, All, Option, Some, None, refl, sym, ap, subst, arith, slice_get, slice_index}
+use Rattle.std.specs.Prelude.{nat_lt}
 use Rattle.std.proofs.lemmas.List.{length-map}
 use Rattle.std.proofs.lemmas.List.Elements.{All-cons, All-nil, All-head, All-tail}
 use Rattle.std.proofs.lemmas.Bool.{false≢true}
 use Rattle.std.proofs.lemmas.Bool.Decides.{nat_tests}
 use Rattle.std.proofs.lemmas.Option.{same_Some, none-some, get_or_from_slice_get, slice_get_within}
 use Rattle.tower_types.specs.declared.scalar.Scalar.TheVariants.{I64}
-use Rattle.tower_types.specs.Ty.{Ty, Fields, scalar, shapes_of, Shape, shape_in, shape_of, table_of, words, depth, depth_of_all}
+use Rattle.tower_types.specs.Ty.{Ty, Fields, scalar, shapes_of, shape_of, table_of, words, depth, depth_of_all}
 use Rattle.tower_types.specs.Value.{Value, flat, fits}
 use Rattle.tower_types.proofs.Flat.{both, length-flat}
 use Rattle.tower_syntax.specs.declared.arch.SourceKind.{SourceKind}
@@ -29,7 +29,7 @@ use Rattle.task_alone.specs.SettingOf.{setting_of}
 use Rattle.task_alone.proofs.Lists.{get_map, get_unmap, get_within, all_at}
 use Rattle.arch_types.specs.Outline.{each}
 use Rattle.arch_types.proofs.Lists.{AllOf, all_left, all_right, each_of, looked}
-use Rattle.arch_checks.specs.Kept.{IsSomeDepth, KeepsNumbers}
+use Rattle.arch_checks.specs.Kept.{IsSomeDepth}
 use Rattle.arch_checks.specs.Sizes.{types_of, types_of_fields, bound_types, shapes}
 use Rattle.arch_checks.specs.Laws.{IsSafe}
 use Rattle.arch_checks.specs.Offences.{IsAccepted}

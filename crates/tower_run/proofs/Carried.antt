@@ -1,5 +1,5 @@
 -- The turns of a run: what each carries out.
-use Rattle.std.proofs.Common.{◌≡◌, ◌<◌, ◌≤◌, ◌+◌, ◌-◌, ℕ, zero, suc, List, [], ◌∷◌, ◌++◌, map, length, Option, Some, None, Bool, true, false, ◌&&◌, ◌||◌, not, refl, sym, ap, ◌∙◌, subst, arith, slice_get, is_some, cond, drop, slice_index_or}
+use Rattle.std.proofs.Common.{◌≡◌, ◌<◌, ◌≤◌, ◌+◌, ◌-◌, ℕ, zero, suc, List, [], ◌∷◌, length, Option, Some, None, Bool, true, false, ◌&&◌, ◌||◌, not, refl, sym, ap, ◌∙◌, subst, arith, slice_get, is_some, cond, drop, slice_index_or}
 use Rattle.std.specs.List.{list_any}
 use Rattle.std.proofs.lemmas.Option.{same_Some, none-some, slice_get_within}
 use Rattle.std.proofs.lemmas.List.{length-map}
@@ -9,26 +9,24 @@ use Rattle.tower_syntax.specs.declared.event.Mark.{Mark}
 use Rattle.tower_syntax.specs.declared.event.Mark.TheVariants as mark
 use Rattle.tower_syntax.specs.Arch.{Entry}
 use Rattle.tower_syntax.specs.View.{events_of}
-use Rattle.task_code.specs.Program.{Program}
 use Rattle.task_code.specs.Machine.{Machine, next_does}
-use Rattle.task_code.specs.Standing.{IsReady, is_ready, standing, is_finished}
+use Rattle.task_code.specs.Standing.{is_ready, standing, is_finished}
 use Rattle.task_code.specs.Run.{is_visible}
 use Rattle.task_code.specs.Policy.{fixed_names, priorities}
 use Rattle.task_code.specs.Plan as plan
 use Rattle.task_code.specs.Plan.{Planning, picked, is_seen, repeated}
 use Rattle.task_machine.specs.Lawful.{fixed_is_lawful}
-use Rattle.task_machine.specs.State.{State, Turned, turn_of, ready, holds, does_next, standing_in, next_entry, arrived, turned}
+use Rattle.task_machine.specs.State.{State, ready, holds, does_next, standing_in, next_entry, arrived, turned}
 use Rattle.tower_run.specs.declared.going.Job.{Job}
 use Rattle.tower_run.specs.declared.going.Going.{Going}
 use Rattle.tower_run.specs.declared.going.Turn.{Turn}
 use Rattle.tower_run.specs.declared.going.Turn.TheVariants as turn
 use Rattle.tower_run.specs.Paging.{HasPut, HasFailed}
-use Rattle.tower_run.specs.Pieces.{AreFitLines}
 use Rattle.tower_run.specs.Waiting.{is_named_waiting}
-use Rattle.tower_run.specs.Going.{Course, course_of, by, begun, shown, waited, Part, going_with, going, going_on, looking, seeing, entering, idling, unchosen, ending, once, repeating, applying, choosing, most_turns, NeverStops, NeverPasses, MayStop, Tells, Told, Carries, IsJob, IsGoing, Shows, Stepped, HasStepped, IsReadyTurn, IsLeftTurn, IsOneTurn, turn_of_put, due_of, task_where, task_left}
-use Rattle.tower_run.proofs.Plans.{Grows, grows_not, see_rests, go_stays, see_stays, go_grows, see_grows, enter_grows, repeated_same, repeated_split, repeated_grows, choose_stays, choose_goes, choose_grows, finished_ends, first_true, second_true, both_false, go_with_grows, look_grows, look_ends, look_goes, look_after, see_after, idle_stays, idle_rests, idle_goes, idle_grows, unchosen_goes, unchosen_enters, to_end_stays, to_end_rests, to_end_goes, to_end_grows, stopped_ends}
-use Rattle.tower_run.proofs.Ready.{Stepping, after_place, received_place, named_if_any, none_named, any_at, any_ready, stands_at, ready_at, is_ready_only, unfinished_ready, unfinished_entry}
-use Rattle.tower_run.proofs.Steps.{failed_grows, told_step, left_some, left_none, stands_here, does_here, then_planned, part_is, makes, entered_planned, enters_none, enters, makes_entry}
+use Rattle.tower_run.specs.Going.{Course, course_of, by, begun, shown, Part, going_with, going, going_on, looking, seeing, entering, idling, unchosen, ending, once, repeating, applying, choosing, most_turns, NeverStops, NeverPasses, MayStop, Tells, Told, Carries, IsGoing, Shows, Stepped, HasStepped, IsReadyTurn, IsLeftTurn, IsOneTurn, turn_of_put, due_of, task_where, task_left}
+use Rattle.tower_run.proofs.Plans.{Grows, grows_not, see_rests, go_stays, see_stays, go_grows, see_grows, enter_grows, repeated_same, repeated_split, repeated_grows, choose_stays, choose_goes, choose_grows, finished_ends, first_true, look_ends, look_goes, look_after, see_after, idle_stays, idle_rests, idle_goes, idle_grows, unchosen_goes, unchosen_enters, to_end_stays, to_end_rests, to_end_goes, to_end_grows, stopped_ends}
+use Rattle.tower_run.proofs.Ready.{Stepping, after_place, received_place, named_if_any, none_named, any_at, any_ready, ready_at, is_ready_only, unfinished_entry}
+use Rattle.tower_run.proofs.Steps.{failed_grows, told_step, left_none, does_here, then_planned, part_is, makes, entered_planned, enters_none, enters, makes_entry}
 use Rattle.tower_run.proofs.Waited.{one_if, counted_few, waits_few}
 use Rattle.tower_report.specs.RunText.{waits}
 use Rattle.tower_io.specs.declared.answers.Put.{Put}

@@ -1,16 +1,16 @@
 -- How a run begins and ends.
-use Rattle.std.proofs.Common.{◌≡◌, ◌<◌, ◌≤◌, ◌+◌, ℕ, List, [], ◌∷◌, ◌++◌, length, Option, Some, None, Bool, true, false, is_some, cond, refl, sym, ap, ◌∙◌, subst, arith}
+use Rattle.std.proofs.Common.{◌≡◌, ◌<◌, ◌≤◌, ℕ, List, [], ◌++◌, length, Option, Some, None, Bool, true, false, is_some, cond, refl, sym, ap, ◌∙◌, subst, arith}
 use Rattle.tower_io.specs.declared.answers.Put.{Put}
 use Rattle.tower_io.specs.declared.answers.Put.TheVariants as put
 use Rattle.tower_syntax.specs.declared.event.Choice.{Choice}
 use Rattle.tower_syntax.specs.declared.event.Events.{Events as EventsValue}
-use Rattle.tower_syntax.specs.Arch.{Arch, Source, Events}
+use Rattle.tower_syntax.specs.Arch.{Arch, Events}
 use Rattle.tower_syntax.specs.View.{events_of}
 use Rattle.task_code.specs.Program.{Program}
 use Rattle.task_code.specs.Machine.{Machine}
 use Rattle.task_code.specs.Run.{first_run}
-use Rattle.task_code.specs.Plan.{Planned, Planning, instructions}
-use Rattle.task_machine.specs.State.{State, start}
+use Rattle.task_code.specs.Plan.{Planning, instructions}
+use Rattle.task_machine.specs.State.{State}
 use Rattle.tower_report.specs.declared.rule.Rule.{Rule}
 use Rattle.tower_report.specs.declared.rule.Rule.TheVariants as rule
 use Rattle.tower_report.specs.Bytes.{Bytes}
@@ -19,13 +19,12 @@ use Rattle.tower_report.specs.RunText.{run_text, waits}
 use Rattle.tower_report.specs.Puts.{Puts}
 use Rattle.tower_run.specs.declared.going.Job.{Job}
 use Rattle.tower_run.specs.declared.going.Going.{Going}
-use Rattle.tower_run.specs.declared.going.Turn.TheVariants as turn
 use Rattle.tower_run.specs.declared.run.Ran.{Ran}
 use Rattle.tower_run.specs.declared.run.Ran.TheVariants as ran
 use Rattle.tower_run.specs.declared.run.Begun.{Begun}
 use Rattle.tower_run.specs.Paging.{HasPut, HasFailed, PutsOver}
 use Rattle.tower_run.specs.Pieces.{IsFitMonitor}
-use Rattle.tower_run.specs.Going.{Course, course_of, by, begun, shown, waited, choosing, Tells, Carries, IsJob, IsGoing}
+use Rattle.tower_run.specs.Going.{Course, course_of, by, begun, shown, choosing, Tells, IsJob}
 use Rattle.tower_run.specs.Ending.{run_stops, RunEnds, IsBegun, CanEnd, ran_of, waits_in, whole_text, Ended}
 use Rattle.tower_run.proofs.Accepted.{accepted_is_safe, fit_monitor, tasks_count}
 use Rattle.tower_run.proofs.Paging.{put_none, put_same, put_flushed, flush_failed, failed_same, failed_longer, all_sent}

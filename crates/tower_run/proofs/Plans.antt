@@ -1,10 +1,10 @@
 -- The parts of a plan: that steps are only added, and that a plan which has stopped stays.
-use Rattle.std.proofs.Common.{◌≡◌, ◌<◌, ◌+◌, ◌-◌, ℕ, zero, suc, List, [], ◌∷◌, ◌++◌, map, length, Option, Some, None, Bool, true, false, ◌||◌, not, refl, sym, ap, ◌∙◌, subst, arith, append_assoc, append-nil}
+use Rattle.std.proofs.Common.{◌≡◌, ◌+◌, ◌-◌, ℕ, zero, suc, List, [], ◌∷◌, ◌++◌, Option, Some, None, Bool, true, false, ◌||◌, not, refl, sym, ap, ◌∙◌, arith, append_assoc, append-nil}
 use Rattle.tower_syntax.specs.declared.event.Choice.{Choice}
 use Rattle.tower_syntax.specs.declared.event.Choice.TheVariants as choice
 use Rattle.tower_syntax.specs.Arch.{Events}
 use Rattle.task_code.specs.Program.{Program}
-use Rattle.task_code.specs.Machine.{Machine, next_does}
+use Rattle.task_code.specs.Machine.{next_does}
 use Rattle.task_code.specs.Standing.{standing, is_ready, is_finished}
 use Rattle.task_code.specs.Run.{Run, Turn, Event, step, is_visible}
 use Rattle.task_code.specs.Policy.{Policy}

@@ -1,5 +1,5 @@
 -- Which tasks are ready, and what a named one does.
-use Rattle.std.proofs.Common.{◌≡◌, ◌<◌, ◌≤◌, ◌+◌, ℕ, zero, suc, ℤ, List, [], ◌∷◌, ◌++◌, map, length, Option, Some, None, Bool, true, false, ◌&&◌, ◌||◌, not, is_some, refl, sym, ap, ◌∙◌, subst, arith, slice_get, append-nil}
+use Rattle.std.proofs.Common.{◌≡◌, ◌<◌, ℕ, zero, suc, ℤ, List, [], ◌∷◌, ◌++◌, map, length, Option, Some, None, Bool, true, false, ◌&&◌, refl, sym, ap, ◌∙◌, subst, arith, slice_get, append-nil}
 use Rattle.std.specs.Prelude.{All, nat_le, cond, take, fold, slice_set, slice_index, slice_index_or}
 use Rattle.std.specs.List.{list_any, list_all}
 use Rattle.std.proofs.lemmas.Option.{slice_get_within, same_Some}
@@ -13,22 +13,20 @@ use Rattle.tower_syntax.specs.Arch.{Arch, Entry, Events}
 use Rattle.tower_syntax.specs.Arrival.{is_full, brought, ticks}
 use Rattle.tower_syntax.specs.View.{events_of}
 use Rattle.tower_syntax.specs.declared.event.Mark.{Mark}
-use Rattle.tower_syntax.specs.declared.event.Mark.TheVariants as mark
 use Rattle.task_code.specs.declared.program.Task.{Task}
 use Rattle.task_code.specs.Program.{Program}
-use Rattle.task_code.specs.Own.{Own}
 use Rattle.task_code.specs.Does.{Does, Stuck, Private, Takes, Locks, Unlocks, Writes}
-use Rattle.task_code.specs.Machine.{Machine, task_does, next_does, after, bring, queue, received}
+use Rattle.task_code.specs.Machine.{Machine, task_does, after, bring, queue, received}
 use Rattle.task_code.specs.Standing.{Standing, IsStuck, IsIdle, IsWaiting, IsReady, is_ready, is_idle, standing, standing_of, standings, is_finished}
-use Rattle.task_code.specs.Run.{Run, Turn, Event, step, steps_from, if_ready, turned, came, mark_of, written_by, is_visible}
+use Rattle.task_code.specs.Run.{mark_of, written_by}
 use Rattle.task_machine.specs.declared.machine.Went.TheVariants as went
 use Rattle.task_machine.specs.declared.machine.Came.TheVariants as came_as
 use Rattle.task_machine.specs.Policy.{IsLawful}
 use Rattle.task_machine.specs.State.{State, Goes, Comes, ready, holds, arrived, first_of, does_next, standing_in, next_entry}
 use Rattle.task_machine.specs.State as state
-use Rattle.tower_report.specs.MarkText.{mark_line, out_line, IsMarkOf}
+use Rattle.tower_report.specs.MarkText.{IsMarkOf}
 use Rattle.tower_report.specs.RunText.{does_text}
-use Rattle.tower_run.specs.Pieces.{marked_text, wrote_text, lines_text, IfMark, IsMessage, IfWrote}
+use Rattle.tower_run.specs.Pieces.{lines_text, IfMark, IsMessage, IfWrote}
 
 -- ---- is any task ready
 

@@ -1,7 +1,6 @@
 -- In a replay each value fits its type.
-use Rattle.std.proofs.Common.{◌≡◌, ◌∙◌, ℕ, suc, ◌+◌, ◌<◌, pos, Bool, true, false, List, [], ◌∷◌, ◌++◌, map, fold, take, length, cond, Option, Some, None, refl, sym, ap, subst, add-one, slice_get, slice_set, slice_index, slice_index_or, length-set}
+use Rattle.std.proofs.Common.{◌≡◌, ◌∙◌, ℕ, ◌+◌, ◌<◌, pos, Bool, true, false, List, [], ◌∷◌, ◌++◌, map, fold, take, length, cond, Option, Some, None, refl, sym, ap, subst, add-one, slice_get, slice_set, slice_index_or, length-set}
 use Rattle.std.specs.Prelude.{All, option_and_then}
-use Rattle.std.proofs.lemmas.List.{length-map}
 use Rattle.std.proofs.lemmas.List.Elements.{All-append, All-cons, All-nil, All-head, All-tail}
 use Rattle.std.proofs.lemmas.Option.{same_Some, none-some, get_or_from_slice_get}
 use Rattle.tower_types.specs.Value.{Value, word, parts, no_values, flat}
@@ -11,10 +10,10 @@ use Rattle.tower_syntax.specs.declared.arch.Listener.TheVariants as to
 use Rattle.tower_syntax.specs.declared.event.Mark.{Mark}
 use Rattle.tower_syntax.specs.declared.event.Mark.TheVariants as mark
 use Rattle.tower_syntax.specs.Arch.{Arch, Entry, Events}
-use Rattle.tower_syntax.specs.Arrival.{is_init, ticks, brought}
+use Rattle.tower_syntax.specs.Arrival.{ticks, brought}
 use Rattle.tower_syntax.specs.Typed.{IsTyped}
 use Rattle.tower_syntax.specs.WellNumbered.{IsWellNumbered}
-use Rattle.tower_meaning.specs.System.{System, Item}
+use Rattle.tower_meaning.specs.System.{Item}
 use Rattle.tower_meaning.specs.Atomic.{Atomic, act, arrive, begin, run, put, handle, may_start, replay, start, first_queue, Fit}
 use Rattle.tower_meaning.specs.Atomic as meaning
 use Rattle.tower_meaning.proofs.KeepsTypes.{keeps_types, brings_fitting}

@@ -1,5 +1,5 @@
 -- One step more of a run that goes on.
-use Rattle.std.proofs.Common.{◌≡◌, ◌<◌, ◌≤◌, ◌+◌, ◌-◌, ℕ, zero, suc, ℤ, List, [], ◌∷◌, ◌++◌, map, length, Option, Some, None, Bool, true, false, ◌&&◌, refl, sym, ap, ◌∙◌, subst, arith, slice_get, add-zero, append-nil}
+use Rattle.std.proofs.Common.{◌≡◌, ◌<◌, ◌≤◌, ◌+◌, ◌-◌, ℕ, suc, List, [], ◌∷◌, ◌++◌, map, length, Option, Some, None, Bool, true, false, ◌&&◌, refl, sym, ap, ◌∙◌, subst, arith, slice_get, add-zero, append-nil}
 use Rattle.std.specs.Prelude.{All}
 use Rattle.std.proofs.lemmas.Option.{same_Some}
 use Rattle.tower_io.specs.declared.answers.Put.{Put}
@@ -9,31 +9,28 @@ use Rattle.tower_syntax.specs.View.{events_of}
 use Rattle.tower_syntax.specs.declared.event.Mark.{Mark}
 use Rattle.tower_syntax.specs.declared.event.Mark.TheVariants as mark
 use Rattle.task_code.specs.Program.{Program}
-use Rattle.task_code.specs.Does.{Does}
 use Rattle.task_code.specs.Machine.{Machine, next_does, after, received}
 use Rattle.task_code.specs.Standing.{IsReady, standing}
-use Rattle.task_code.specs.Run.{Run, Step, Turn, Event, step, steps_from, first_run, if_ready, turned, came, mark_of, written_by}
+use Rattle.task_code.specs.Run.{Run, Turn, Event, step, steps_from, if_ready, turned, came, written_by}
 use Rattle.task_code.specs.Plan as plan
 use Rattle.task_code.specs.Plan.{Planned, goes, comes, step_of, Planning, instructions}
 use Rattle.task_machine.specs.State.{State, first_of, does_next, standing_in, next_entry, wrote_last, arrived}
-use Rattle.task_machine.specs.State as state
 use Rattle.tower_report.specs.MarkText.{mark_line}
 use Rattle.tower_report.specs.RunText.{steps_text, step_text, does_text, waits_before, waits}
 use Rattle.tower_report.proofs.Steps.{instructions_append, steps_text_push, steps_text_append}
 use Rattle.tower_run.specs.declared.going.Job.{Job}
 use Rattle.tower_run.specs.declared.going.Going.{Going}
 use Rattle.tower_run.specs.declared.going.Turn.{Turn as Result}
-use Rattle.tower_run.specs.declared.going.Turn.TheVariants as turn
 use Rattle.tower_run.specs.Paging.{HasPut, HasFailed, AfterPut}
 use Rattle.tower_run.specs.Pieces.{lines_text, IsMessage, IfMark, IfWrote, AreFitLines}
 use Rattle.tower_run.specs.Waiting.{is_named_waiting}
-use Rattle.tower_run.specs.Going.{Course, course_of, by, begun, shown, waited, going_with, going_on, entering, Tells, Told, Carries, IsJob, IsGoing, Shows, turn_of_put}
+use Rattle.tower_run.specs.Going.{Course, course_of, by, begun, shown, waited, going_with, entering, Tells, Told, IsJob, Shows, turn_of_put}
 use Rattle.tower_run.proofs.Replays.{outputs_fit}
 use Rattle.tower_run.proofs.Accepted.{accepted_is_safe, messages_fit, tasks_count}
-use Rattle.tower_run.proofs.Paging.{put_same, failed_same, failed_longer}
+use Rattle.tower_run.proofs.Paging.{failed_same, failed_longer}
 use Rattle.tower_run.proofs.Plans.{Grows}
 use Rattle.tower_run.proofs.Ready.{Stepping, ready_within, mark_fits, last_message, does_lines}
-use Rattle.tower_run.proofs.Waited.{one_if, waits_push, waits_few, counted_more, counted_few}
+use Rattle.tower_run.proofs.Waited.{one_if, waits_push, counted_more}
 
 steps_push : (p : Program) (events : Events) (o : Option Run) (ss : List Planned) (z : Planned) (r : Run) → steps_from p events o (map step_of ss) ≡ Some r → steps_from p events o (map step_of (ss ++ z ∷ [])) ≡ step p events r (step_of z)
 steps_push p events None [] z r e = cc

@@ -1,9 +1,8 @@
 -- How often the rule names a waiting task, step by step.
-use Rattle.std.proofs.Common.{◌≡◌, ℕ, suc, ◌+◌, ◌≤◌, List, [], ◌∷◌, ◌++◌, map, Option, Some, None, Bool, true, false, ◌&&◌, cond, refl, sym, ap, ◌∙◌, arith}
+use Rattle.std.proofs.Common.{◌≡◌, ℕ, ◌+◌, ◌≤◌, List, [], ◌∷◌, ◌++◌, map, Option, Some, None, Bool, true, false, ◌&&◌, cond, sym, ap, ◌∙◌, arith}
 use Rattle.std.proofs.lemmas.Option.{same_Some}
 use Rattle.tower_syntax.specs.Arch.{Events}
 use Rattle.task_code.specs.Program.{Program}
-use Rattle.task_code.specs.Machine.{Machine}
 use Rattle.task_code.specs.Run.{Run, step, steps_from}
 use Rattle.task_code.specs.Policy.{Policy}
 use Rattle.task_code.specs.Plan.{Planned, goes, comes, step_of, instructions}

@@ -1,7 +1,7 @@
 -- How a run ends, with what it has put on a sink.
 use Rattle.std.specs.Prelude.{◌≡◌, ℕ, ◌<◌, List, [], ◌++◌, length, cond, Bool, true, false, Option, Some, None}
 use Rattle.tower_syntax.specs.declared.event.Choice.{Choice}
-use Rattle.tower_syntax.specs.Arch.{Arch, Events}
+use Rattle.tower_syntax.specs.Arch.{Events}
 use Rattle.tower_syntax.specs.declared.event.Events.{Events as EventsValue}
 use Rattle.tower_io.specs.declared.answers.Put.{Put}
 use Rattle.tower_io.specs.declared.answers.Put.TheVariants as put

@@ -1,7 +1,7 @@
-use Rattle.std.proofs.Common.{◌≡◌, ◌<◌, ◌+◌, ◌∙◌, ℕ, List, [], ◌∷◌, drop, sym, ap, refl, arith}
+use Rattle.std.proofs.Common.{◌∙◌, [], drop, sym}
 use Rattle.tower_syntax.specs.declared.event.Choice.TheVariants as choice
 use Rattle.tower_run.specs.declared.going.Turn.TheVariants as turn
-use Rattle.tower_run.specs.Going.{choosing, applying, ending}
+use Rattle.tower_run.specs.Going.{choosing}
 use Rattle.tower_run.proofs.Carried.{so_far_none, so_far_going, composed, choose_ends, choose_left, choose_next, choose_stop, drop_none, never_passed, stopped_not_went, stopped_not_passed, failed_not_went, failed_not_passed, went_not_passed}
 use Rattle.tower_run.proofs.choices.choose.Goals as goal
 

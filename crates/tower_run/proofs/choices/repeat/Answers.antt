@@ -1,6 +1,6 @@
-use Rattle.std.proofs.Common.{◌≡◌, ◌<◌, ◌-◌, ℕ, arith}
+use Rattle.std.proofs.Common.{◌-◌}
 use Rattle.tower_run.specs.declared.going.Turn.TheVariants as turn
-use Rattle.tower_run.specs.Going.{once, repeating}
+use Rattle.tower_run.specs.Going.{repeating}
 use Rattle.tower_run.proofs.Carried.{so_far_going, composed, repeat_none, repeat_more, repeat_over, repeat_exits, repeat_rests, stopped_not_went, stopped_not_passed, failed_not_went, failed_not_passed, went_not_passed}
 use Rattle.tower_run.proofs.choices.repeat.Goals as goal
 

@@ -1,4 +1,4 @@
-use Rattle.std.proofs.Common.{◌≡◌, ℕ, List, [], length, take, ap, sym, ◌∙◌, subst}
+use Rattle.std.proofs.Common.{◌≡◌, take, ap, sym, ◌∙◌, subst}
 use Rattle.tower_io.specs.declared.answers.Put.TheVariants as put
 use Rattle.tower_report.specs.Bytes.{Bytes}
 use Rattle.tower_report.specs.Puts.{Puts}

@@ -1,4 +1,3 @@
-use Rattle.std.proofs.Common.{false, true}
 use Rattle.tower_run.specs.Going.{choosing}
 use Rattle.tower_run.proofs.Ends.{can_end, failed_early}
 use Rattle.tower_run.proofs.run.carry_out.Goals as goal

@@ -1,9 +1,9 @@
-use Rattle.std.proofs.Common.{◌≡◌, ◌++◌, ℕ, Option, cond, Some, None, sym, ap, ◌∙◌, subst}
+use Rattle.std.proofs.Common.{ℕ, Option, sym, subst}
 use Rattle.tower_io.specs.declared.answers.Put.TheVariants as put
 use Rattle.tower_report.specs.EndText.{end_text}
 use Rattle.tower_run.specs.declared.run.Ran.{Ran}
 use Rattle.tower_run.specs.Paging.{PutsOver}
-use Rattle.tower_run.specs.Ending.{Ended, ran_of}
+use Rattle.tower_run.specs.Ending.{Ended}
 use Rattle.tower_run.proofs.Ends.{ended, ended_failed}
 use Rattle.tower_run.proofs.run.end.Goals as goal
 

@@ -1,4 +1,4 @@
-use Rattle.std.proofs.Common.{◌≡◌, ℕ, List, [], Bool, false, is_some, sym, ap, subst}
+use Rattle.std.proofs.Common.{◌≡◌, [], Bool, false, sym, subst}
 use Rattle.tower_syntax.specs.Arch.{Arch}
 use Rattle.tower_syntax.specs.View.{events_of}
 use Rattle.tower_meaning.specs.Atomic.{Fit}

@@ -1,4 +1,4 @@
-use Rattle.std.proofs.Common.{◌≡◌, ◌+◌, ℕ, List, Option, refl, ap}
+use Rattle.std.proofs.Common.{◌+◌, refl, ap}
 use Rattle.task_machine.specs.State.{State, ready, holds}
 use Rattle.tower_run.proofs.Ready.{stepping, none_any, not_stepping}
 use Rattle.tower_run.proofs.Steps.{lines_fit}

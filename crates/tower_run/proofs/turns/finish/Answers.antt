@@ -1,4 +1,4 @@
-use Rattle.std.proofs.Common.{◌≡◌, ◌<◌, ◌+◌, ℕ, refl, arith}
+use Rattle.std.proofs.Common.{arith}
 use Rattle.tower_run.specs.declared.going.Turn.TheVariants as turn
 use Rattle.tower_run.specs.Going.{ending, unchosen}
 use Rattle.tower_run.proofs.Carried.{so_far_none, so_far_more, so_far_going, composed, finish_exits, finish_ends, finish_continues, stopped_not_went, stopped_not_passed, failed_not_went, failed_not_passed, went_not_passed}

@@ -1,4 +1,4 @@
-use Rattle.std.proofs.Common.{ℕ, List, Bool, sym, subst, arith}
+use Rattle.std.proofs.Common.{sym, subst}
 use Rattle.task_code.specs.Policy.{fixed_names}
 use Rattle.task_machine.specs.State.{ready, holds}
 use Rattle.tower_run.specs.declared.going.Turn.{Turn}

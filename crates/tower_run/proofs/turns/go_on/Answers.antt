@@ -1,4 +1,4 @@
-use Rattle.std.proofs.Common.{◌≡◌, ℕ, Option, Some, ap, sym, ◌∙◌, subst, arith}
+use Rattle.std.proofs.Common.{◌≡◌, ℕ, Option, Some, ap, ◌∙◌, subst}
 use Rattle.task_code.specs.Policy.{any_names}
 use Rattle.task_code.specs.Plan as plan
 use Rattle.task_machine.specs.State.{ready, holds}

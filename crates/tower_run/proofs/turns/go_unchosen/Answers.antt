@@ -1,4 +1,4 @@
-use Rattle.std.proofs.Common.{◌≡◌, ◌+◌, ℕ, ap, sym, ◌∙◌, refl, arith, subst, false, Bool}
+use Rattle.std.proofs.Common.{◌≡◌, ℕ, sym, ◌∙◌}
 use Rattle.tower_syntax.specs.View.{events_of}
 use Rattle.task_code.specs.Standing.{is_finished}
 use Rattle.tower_run.specs.declared.going.Going.{Going}

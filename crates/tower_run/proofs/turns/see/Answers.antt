@@ -1,6 +1,5 @@
-use Rattle.std.proofs.Common.{◌≡◌, ℕ, Some, None, sym, ap, ◌∙◌, subst, slice_get}
-use Rattle.task_code.specs.Policy.{fixed_names}
-use Rattle.task_machine.specs.State.{ready, holds}
+use Rattle.std.proofs.Common.{◌≡◌, sym, ap, ◌∙◌, subst, slice_get}
+use Rattle.task_machine.specs.State.{ready}
 use Rattle.tower_run.specs.declared.going.Turn.{Turn}
 use Rattle.tower_run.specs.declared.going.Turn.TheVariants as turn
 use Rattle.tower_run.specs.Going.{going, NeverPasses}

@@ -1,8 +1,5 @@
-use Rattle.std.proofs.Common.{◌≡◌, ◌<◌, ℕ, List, Bool, Option, Some, length, map, ap, sym, ◌∙◌, subst}
+use Rattle.std.proofs.Common.{◌<◌, ℕ, length, ap, sym, ◌∙◌, subst}
 use Rattle.std.proofs.lemmas.List.{length-map}
-use Rattle.task_code.specs.Policy.{fixed_names}
-use Rattle.task_machine.specs.State.{holds}
-use Rattle.tower_run.specs.Waiting.{busy_in}
 use Rattle.tower_run.proofs.Busy.{busy_length, fixed_within}
 use Rattle.tower_run.proofs.waits.is_wait.Goals as goal
 
