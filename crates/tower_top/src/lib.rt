@@ -15,6 +15,8 @@ mod words;
 
 pub use status::Status;
 pub use top::tower;
+pub use tower_report::Rule;
+pub use tower_run::{Ran, run_program};
 
 #[cfg(test)]
 mod tests;
