@@ -64,8 +64,8 @@ choice_made t a b old c1 c2 c3 c4 c5 new i j test jump h1 ht h2 h3 hj h4 h5 h6 =
     let fifth : c5 ≡ c1 ++ i ∷ (la ++ j ∷ lb) = h5 ∙ ap (λ c. c ++ lb) (h4 ∙ ap (λ c. c ++ j ∷ []) third) ∙ append_assoc (c1 ++ i ∷ la) (j ∷ []) lb ∙ append_assoc c1 (i ∷ la) (j ∷ lb) in
     let at : jump ≡ length (c1 ++ x ∷ la) = hj ∙ ap length third ∙ length-append c1 (i ∷ la) ∙ sym (length-append c1 (x ∷ la)) in
     let made : new ≡ c1 ++ x ∷ (la ++ y ∷ lb) =
-        h6 ∙ ap (λ c. slice_set (slice_set c test x) jump y) fifth ∙ ap (λ n. slice_set (slice_set (c1 ++ i ∷ (la ++ j ∷ lb)) n x) jump y) ht
-        ∙ ap (λ n. slice_set (slice_set (c1 ++ i ∷ (la ++ j ∷ lb)) (length c1) x) n y) at ∙ set_two c1 la lb i j x y in
+    h6 ∙ ap (λ c. slice_set (slice_set c test x) jump y) fifth ∙ ap (λ n. slice_set (slice_set (c1 ++ i ∷ (la ++ j ∷ lb)) n x) jump y) ht
+    ∙ ap (λ n. slice_set (slice_set (c1 ++ i ∷ (la ++ j ∷ lb)) (length c1) x) n y) at ∙ set_two c1 la lb i j x y in
     let from_old : new ≡ old ++ (lt ++ x ∷ (la ++ y ∷ lb)) = made ∙ ap (λ c. c ++ x ∷ (la ++ y ∷ lb)) h1 ∙ append_assoc old lt (x ∷ (la ++ y ∷ lb)) in
     let target : jump + 1 ≡ length c4 = omega (arith, hj, e4) in
     let whole : ℕ → ℕ → ℕ → ℕ → List Instr = λ n m k o. old ++ (lt ++ Jz m ∷ (listed (a n) ++ Jmp k ∷ listed (b o))) in
