@@ -1,0 +1,9 @@
+pub mod Lines
+pub mod Numbers
+pub mod Spelling
+pub mod Listing
+pub mod Forms
+pub mod Context
+pub mod Faults
+pub mod Rows
+pub mod Writing
