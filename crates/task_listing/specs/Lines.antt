@@ -11,6 +11,11 @@ Bytes = List ℕ
 abbrev pub line : List Bytes → Bytes
 line words = join_with_byte 32 words ++ 10 ∷ []
 
+-- the texts of items, one after another
+abbrev pub texts : {A : Type 0} → (A → Bytes) → List A → Bytes
+texts f [] = []
+texts f (x ∷ xs) = f x ++ texts f xs
+
 -- ---- reading
 
 -- a byte before whole lines: it is the first of the first, or none of any where no LF comes

@@ -1,7 +1,6 @@
 -- The parts of a line, as they are written one after another.
-use Rattle.std.specs.Prelude.{ℕ, List, [], ◌∷◌, ◌++◌, map}
-use Rattle.std.specs.List.{concat}
-use Rattle.task_listing.specs.Lines.{Bytes}
+use Rattle.std.specs.Prelude.{ℕ, List, ◌∷◌}
+use Rattle.task_listing.specs.Lines.{Bytes, texts}
 use Rattle.task_listing.specs.Spelling.{Word, text}
 
 abbrev pub after_blank : Word → Bytes
@@ -9,4 +8,4 @@ after_blank w = 32 ∷ text w
 
 -- words, each behind a blank
 abbrev pub spaced : List Word → Bytes
-spaced ws = concat (map after_blank ws)
+spaced ws = texts after_blank ws

@@ -1,13 +1,12 @@
 //! Writes the listing of a program.
-ghost use Rattle.std.specs.Prelude.{◌≡◌, ◌≤◌, [], ◌∷◌, ◌++◌, length, map, IfOk, OnOk, codes, All};
-ghost use Rattle.std.specs.List.{concat};
-ghost use Rattle.task_code.specs.Rules.{most_words, most_instructions};
-ghost use Rattle.task_listing.specs.Spelling.{text, words_of, written, scalar_text, natural, letters, scalar, with_numbers};
-ghost use Rattle.task_listing.specs.Listing.{listing, counted, number_row, buffer_line, task_rows, task_line, text_of};
+ghost use Rattle.std.specs.Prelude.{◌≡◌, ◌++◌, IfOk, OnOk, codes};
+ghost use Rattle.task_listing.specs.Lines.{texts};
+ghost use Rattle.task_listing.specs.Spelling.{natural, letters, scalar, with_numbers, written};
+ghost use Rattle.task_listing.specs.Listing.{listing, counted, number_text, buffer_text, instr_text, task_text};
 ghost use Rattle.task_listing.specs.Writing.{after_blank, spaced};
 ghost use Rattle.task_listing.specs.Rows.{operand_words};
 
-use crate::row::{Operands, row};
+use crate::row::{Operands, Row};
 use itoa::Buffer as Digits;
 use sqlite_items::Items;
 use std::alloc::Global;
@@ -36,7 +35,7 @@ fn put(out: &mut Vec<u8>, bytes: &[u8]) -> Result<(), NoMemory>
 }
 
 /// Puts a blank and a number.
-fn put_number(out: &mut Vec<u8>, n: u32) -> Result<(), NoMemory>
+fn put_number(out: &mut Vec<u8>, n: u64) -> Result<(), NoMemory>
     ensures { OnOk result (out.new.items ≡ out.old.items ++ after_blank (natural n)) }
 {
     let mut digits = Digits::new();
@@ -71,7 +70,7 @@ fn put_word(out: &mut Vec<u8>, word: &str) -> Result<(), NoMemory>
 }
 
 /// Puts a line of a word and numbers.
-fn put_numbers(out: &mut Vec<u8>, word: &str, numbers: &[u32]) -> Result<(), NoMemory>
+fn put_numbers(out: &mut Vec<u8>, word: &str, numbers: &[u64]) -> Result<(), NoMemory>
     ensures { OnOk result (out.new.items ≡ out.old.items ++ written (with_numbers word.now numbers.now)) }
 {
     put(out, word.as_bytes())?;
@@ -84,12 +83,11 @@ fn put_numbers(out: &mut Vec<u8>, word: &str, numbers: &[u32]) -> Result<(), NoM
 
 /// Puts the number of numbers, and a line for each.
 fn put_counted(out: &mut Vec<u8>, head: &str, word: &str, numbers: &[u32]) -> Result<(), NoMemory>
-    requires { length numbers.now ≤ most_words }
-    ensures { OnOk result (out.new.items ≡ out.old.items ++ text_of (counted head.now (number_row word.now) numbers.now)) }
+    ensures { OnOk result (out.new.items ≡ out.old.items ++ counted head.now (number_text word.now) numbers.now) }
 {
-    put_numbers(out, head, &[numbers.len() as u32])?;
+    put_numbers(out, head, &[numbers.len() as u64])?;
     for number in numbers {
-        put_numbers(out, word, &[*number])?;
+        put_numbers(out, word, &[u64::from(*number)])?;
     }
     Ok(())
 }
@@ -104,15 +102,15 @@ fn put_operands(out: &mut Vec<u8>, operands: Operands) -> Result<(), NoMemory>
             let mut digits = Digits::new();
             put_word(out, digits.format(n))?;
         }
-        Operands::One(a) => put_number(out, a)?,
+        Operands::One(a) => put_number(out, u64::from(a))?,
         Operands::Two(a, b) => {
-            put_number(out, a)?;
-            put_number(out, b)?;
+            put_number(out, u64::from(a))?;
+            put_number(out, u64::from(b))?;
         }
         Operands::Three(a, b, c) => {
-            put_number(out, a)?;
-            put_number(out, b)?;
-            put_number(out, c)?;
+            put_number(out, u64::from(a))?;
+            put_number(out, u64::from(b))?;
+            put_number(out, u64::from(c))?;
         }
         Operands::Unary(op, t) => {
             put_word(out, unary_word(op))?;
@@ -129,9 +127,9 @@ fn put_operands(out: &mut Vec<u8>, operands: Operands) -> Result<(), NoMemory>
 
 /// Puts the line of an instruction.
 fn put_instr(out: &mut Vec<u8>, instr: Instr) -> Result<(), NoMemory>
-    ensures { OnOk result (out.new.items ≡ out.old.items ++ written (words_of instr)) }
+    ensures { OnOk result (out.new.items ≡ out.old.items ++ instr_text instr) }
 {
-    let row = row(instr);
+    let row = Row::of(instr);
     put(out, row.word.as_bytes())?;
     put_operands(out, row.operands)?;
     out.push(b'\n')?;
@@ -139,14 +137,18 @@ fn put_instr(out: &mut Vec<u8>, instr: Instr) -> Result<(), NoMemory>
 }
 
 fn put_buffer(out: &mut Vec<u8>, buffer: Buffer) -> Result<(), NoMemory>
-    ensures { OnOk result (out.new.items ≡ out.old.items ++ written (buffer_line buffer)) }
+    ensures { OnOk result (out.new.items ≡ out.old.items ++ buffer_text buffer) }
 {
-    put_numbers(out, "buffer", &[buffer.width, buffer.bound])?;
+    put_numbers(
+        out,
+        "buffer",
+        &[u64::from(buffer.width), u64::from(buffer.bound)],
+    )?;
     Ok(())
 }
 
 fn put_buffers(out: &mut Vec<u8>, buffers: &[Buffer]) -> Result<(), NoMemory>
-    ensures { OnOk result (out.new.items ≡ out.old.items ++ text_of (map buffer_line buffers.now)) }
+    ensures { OnOk result (out.new.items ≡ out.old.items ++ texts buffer_text buffers.now) }
 {
     for buffer in buffers {
         put_buffer(out, *buffer)?;
@@ -155,7 +157,7 @@ fn put_buffers(out: &mut Vec<u8>, buffers: &[Buffer]) -> Result<(), NoMemory>
 }
 
 fn put_code(out: &mut Vec<u8>, code: &[Instr]) -> Result<(), NoMemory>
-    ensures { OnOk result (out.new.items ≡ out.old.items ++ text_of (map words_of code.now)) }
+    ensures { OnOk result (out.new.items ≡ out.old.items ++ texts instr_text code.now) }
 {
     for instr in code {
         put_instr(out, *instr)?;
@@ -164,17 +166,14 @@ fn put_code(out: &mut Vec<u8>, code: &[Instr]) -> Result<(), NoMemory>
 }
 
 fn put_task(out: &mut Vec<u8>, task: &Task) -> Result<(), NoMemory>
-    requires { (length task.now.buffers ≤ most_words) × (length task.now.code ≤ most_instructions) }
-    ensures { OnOk result (out.new.items ≡ out.old.items ++ text_of (task_rows task.now)) }
+    ensures { OnOk result (out.new.items ≡ out.old.items ++ task_text task.now) }
 {
-    let buffers = task.buffers.len() as u32;
-    let code = task.code.len() as u32;
     let head = [
-        u32::from(task.priority),
-        task.message,
-        task.room,
-        buffers,
-        code,
+        u64::from(task.priority),
+        u64::from(task.message),
+        u64::from(task.room),
+        task.buffers.len() as u64,
+        task.code.len() as u64,
     ];
     put_numbers(out, "task", &head)?;
     put_buffers(out, task.buffers.as_slice())?;
@@ -184,11 +183,9 @@ fn put_task(out: &mut Vec<u8>, task: &Task) -> Result<(), NoMemory>
 
 /// Puts the number of tasks, and the lines of each.
 fn put_tasks(out: &mut Vec<u8>, tasks: &[Task]) -> Result<(), NoMemory>
-    requires few { length tasks.now ≤ most_words }
-    requires short { All (λ t. (length t.buffers ≤ most_words) × (length t.code ≤ most_instructions)) tasks.now }
-    ensures { OnOk result (out.new.items ≡ out.old.items ++ text_of (counted (codes "tasks") task_rows tasks.now)) }
+    ensures { OnOk result (out.new.items ≡ out.old.items ++ counted (codes "tasks") task_text tasks.now) }
 {
-    put_numbers(out, "tasks", &[tasks.len() as u32])?;
+    put_numbers(out, "tasks", &[tasks.len() as u64])?;
     for task in tasks {
         put_task(out, task)?;
     }

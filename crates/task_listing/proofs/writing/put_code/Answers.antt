@@ -1,0 +1,12 @@
+use Rattle.std.proofs.Common.{rules, ◌≡◌, ◌++◌, ℕ, [], ◌∷◌, arith}
+use Rattle.task_listing.specs.Spelling.{natural}
+use Rattle.task_listing.specs.Listing.{number_text, buffer_text, instr_text, task_text}
+use Rattle.task_listing.specs.Writing.{after_blank}
+use Rattle.task_listing.proofs.Texts.{texts_next, texts_all, numbers_line}
+use Rattle.task_listing.proofs.writing.put_code.Goals as goal
+
+pub loop-instr-preserved : goal.loop-instr-preserved
+loop-instr-preserved c = texts_next instr_text c.args.code.now c.loop-instr.instr-index _ _ _ _ c.loop-instr-test.true c.loop-instr.invariant c.in_ok-put_instr.ensures
+
+pub returns : goal.returns
+returns c = texts_all instr_text c.args.code.now c.loop-instr.instr-index _ _ c.loop-instr-test.false c.loop-instr.invariant
