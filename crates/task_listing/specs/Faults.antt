@@ -8,7 +8,9 @@ use Rattle.task_listing.specs.declared.fault.ListKind.{ListKind}
 use Rattle.task_listing.specs.declared.fault.ListKind.TheVariants as fault
 use Rattle.task_listing.specs.Lines.{Bytes, IsLine, lines, whole_lines, words}
 use Rattle.task_listing.specs.Spelling.{text, words_of}
-use Rattle.task_listing.specs.Forms.{Kind, task, buffer, instruction, AtSight, IsSpelled, Has}
+use Rattle.task_listing.specs.declared.kind.Kind.{Kind}
+use Rattle.task_listing.specs.declared.kind.Kind.TheVariants as kind
+use Rattle.task_listing.specs.Forms.{AtSight, IsSpelled, Has}
 use Rattle.task_listing.specs.Context.{Context, IsSetting, context, numbers}
 
 -- how many bytes a text may have
@@ -29,9 +31,9 @@ KeepsInstr c ws = (p : Program) × (t : Task) × (i : Instr) × IsSetting c p t 
 
 -- a message or a width is 0, or no instruction with these words keeps the rules
 abbrev pub BreaksRule : Context → Kind → Bytes → Type 0
-BreaksRule c task l = slice_get (numbers l) 1 ≡ Some 0
-BreaksRule c buffer l = slice_get (numbers l) 0 ≡ Some 0
-BreaksRule c instruction l = KeepsInstr c (words l) → ⊥
+BreaksRule c kind.Task l = slice_get (numbers l) 1 ≡ Some 0
+BreaksRule c kind.Buffer l = slice_get (numbers l) 0 ≡ Some 0
+BreaksRule c kind.Instruction l = KeepsInstr c (words l) → ⊥
 BreaksRule c _ l = ⊥
 
 -- line n stands where a line of the kind is awaited, in this context

@@ -6,22 +6,11 @@ use Rattle.tower_types.specs.declared.scalar.UnOp.{UnOp}
 use Rattle.tower_syntax.specs.Words.{binary_word, unary_word}
 use Rattle.task_code.specs.declared.program.Instr.{Instr}
 use Rattle.task_code.specs.Rules.{most_words, IsScalar}
-use Rattle.task_listing.specs.Lines.{Bytes, words}
+use Rattle.task_listing.specs.declared.kind.Kind.{Kind}
+use Rattle.task_listing.specs.declared.kind.Kind.TheVariants as kind
+use Rattle.task_listing.specs.Lines.{Bytes}
 use Rattle.task_listing.specs.Numbers.{is_word, is_number}
 use Rattle.task_listing.specs.Spelling.{Word, letters, natural, integer, unary, binary, scalar, scalar_text, words_of}
-
--- what a line is
-pub data Kind : Type 0 where
-  title : Kind
-  monitors : Kind
-  monitor : Kind
-  outputs : Kind
-  output : Kind
-  tasks : Kind
-  task : Kind
-  buffer : Kind
-  instruction : Kind
-  ending : Kind
 
 -- what stands at a place of a line
 pub data Slot : Type 0 where
@@ -73,18 +62,18 @@ Each P (s ∷ ss) (w ∷ ws) = P s w × Each P ss ws
 
 -- the lines that are no instructions
 abbrev pub form : Kind → List Slot
-form title = fixed (codes "tower-listing") ∷ fixed (codes "1") ∷ []
-form monitors = fixed (codes "monitors") ∷ count ∷ []
-form monitor = fixed (codes "monitor") ∷ count ∷ []
-form outputs = fixed (codes "outputs") ∷ count ∷ []
-form output = fixed (codes "output") ∷ count ∷ []
-form tasks = fixed (codes "tasks") ∷ count ∷ []
-form task = fixed (codes "task") ∷ priority ∷ count ∷ count ∷ count ∷ count ∷ []
-form buffer = fixed (codes "buffer") ∷ count ∷ count ∷ []
-form instruction = []
-form ending = fixed (codes "end") ∷ []
+form kind.Title = fixed (codes "tower-listing") ∷ fixed (codes "1") ∷ []
+form kind.Monitors = fixed (codes "monitors") ∷ count ∷ []
+form kind.Monitor = fixed (codes "monitor") ∷ count ∷ []
+form kind.Outputs = fixed (codes "outputs") ∷ count ∷ []
+form kind.Output = fixed (codes "output") ∷ count ∷ []
+form kind.Tasks = fixed (codes "tasks") ∷ count ∷ []
+form kind.Task = fixed (codes "task") ∷ priority ∷ count ∷ count ∷ count ∷ count ∷ []
+form kind.Buffer = fixed (codes "buffer") ∷ count ∷ count ∷ []
+form kind.Instruction = []
+form kind.Ending = fixed (codes "end") ∷ []
 
 -- the words are those of a line of the kind
 abbrev pub Has : (Slot → Bytes → Type 0) → Kind → List Bytes → Type 0
-Has P instruction ws = (i : Instr) × Each P (map slot_of (words_of i)) ws
+Has P kind.Instruction ws = (i : Instr) × Each P (map slot_of (words_of i)) ws
 Has P k ws = Each P (form k) ws

@@ -7,3 +7,6 @@ pub mod Context
 pub mod Faults
 pub mod Rows
 pub mod Writing
+pub mod FewWords
+pub mod Answers
+pub mod Judging

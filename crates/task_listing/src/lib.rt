@@ -2,7 +2,12 @@
 #![tactic(auto)]
 
 mod fault;
+mod kind;
+mod number;
+mod operation;
 mod row;
+mod rules;
+mod words;
 mod writing;
 
 pub use fault::{ListFault, ListKind};
