@@ -51,13 +51,13 @@ behind kind.Task (p ∷ message ∷ room ∷ buffers ∷ code ∷ []) c =
 behind kind.Buffer (width ∷ bound ∷ []) c = record c { words = counted_to most_words (c.words + bound * width) }
 behind _ _ c = c
 
--- the numbers behind the first word
-abbrev pub numbers : Bytes → List ℕ
-numbers l = map (digits_value 10) (drop 1 (words l))
+-- the numbers behind the first of words
+abbrev pub numbers : List Bytes → List ℕ
+numbers ws = map (digits_value 10) (drop 1 ws)
 
 abbrev pub behind_awaited : List Kind → Bytes → Context → Context
 behind_awaited [] l c = c
-behind_awaited (k ∷ ks) l c = behind k (numbers l) (record c { awaits = ks })
+behind_awaited (k ∷ ks) l c = behind k (numbers (words l)) (record c { awaits = ks })
 
 abbrev pub behind_line : Context → Bytes → Context
 behind_line c l = behind_awaited c.awaits l c

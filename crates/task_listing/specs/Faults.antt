@@ -31,8 +31,8 @@ KeepsInstr c ws = (p : Program) × (t : Task) × (i : Instr) × IsSetting c p t 
 
 -- a message or a width is 0, or no instruction with these words keeps the rules
 abbrev pub BreaksRule : Context → Kind → Bytes → Type 0
-BreaksRule c kind.Task l = slice_get (numbers l) 1 ≡ Some 0
-BreaksRule c kind.Buffer l = slice_get (numbers l) 0 ≡ Some 0
+BreaksRule c kind.Task l = slice_get (numbers (words l)) 1 ≡ Some 0
+BreaksRule c kind.Buffer l = slice_get (numbers (words l)) 0 ≡ Some 0
 BreaksRule c kind.Instruction l = KeepsInstr c (words l) → ⊥
 BreaksRule c _ l = ⊥
 

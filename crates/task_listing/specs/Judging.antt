@@ -11,7 +11,7 @@ use Rattle.task_listing.specs.declared.kind.Kind.{Kind}
 use Rattle.task_listing.specs.declared.kind.Kind.TheVariants as kind
 use Rattle.task_listing.specs.declared.rules.Head.{Head}
 use Rattle.task_listing.specs.Lines.{Bytes, words, whole_lines, behind_lines}
-use Rattle.task_listing.specs.Context.{Context, start, behind_line, numbers}
+use Rattle.task_listing.specs.Context.{Context, start, behind, numbers}
 use Rattle.task_listing.specs.Faults.{byte_limit}
 use Rattle.task_listing.specs.Answers.{Answer, title_line, count_line, task_line, buffer_line, instr_line, ending_line}
 
@@ -72,15 +72,11 @@ is_misplaced c (Ok (Some i)) = not (keeps c.monitors c.outputs c.head i)
 is_misplaced c (Ok None) = true
 is_misplaced c (Err k) = false
 
-abbrev pub breaks_kind : Kind → Context → Bytes → Bool
-breaks_kind kind.Task c l = is_zero (slice_get (numbers l) 1)
-breaks_kind kind.Buffer c l = is_zero (slice_get (numbers l) 0)
-breaks_kind kind.Instruction c l = is_misplaced c (instr_line (words l))
-breaks_kind _ c l = false
-
-abbrev pub breaks : List Kind → Context → Bytes → Bool
-breaks [] c l = false
-breaks (k ∷ ks) c l = breaks_kind k c l
+abbrev pub breaks_kind : Kind → Context → List Bytes → Bool
+breaks_kind kind.Task c ws = is_zero (slice_get (numbers ws) 1)
+breaks_kind kind.Buffer c ws = is_zero (slice_get (numbers ws) 0)
+breaks_kind kind.Instruction c ws = is_misplaced c (instr_line ws)
+breaks_kind _ c ws = false
 
 -- ---- the walk
 
@@ -97,9 +93,19 @@ marked (Some m) b n = Some m
 marked None true n = Some n
 marked None false n = None
 
--- behind line n
-abbrev pub next : State → ℕ → Bytes → State
-next s n l = record { context = behind_line s.context l; place = marked s.place (breaks s.context.awaits s.context l) n }
+abbrev pub with_awaits : List Kind → Context → Context
+with_awaits ks c = record c { awaits = ks }
+
+-- behind line n, which is one of the kind, with these words
+abbrev pub next_kind : Kind → State → ℕ → List Bytes → State
+next_kind k s n ws = record { context = behind k (numbers ws) s.context; place = marked s.place (breaks_kind k s.context ws) n }
+
+abbrev pub next_by : List Kind → State → ℕ → List Bytes → State
+next_by [] s n ws = s
+next_by (k ∷ ks) s n ws = next_kind k (record s { context = with_awaits ks s.context }) n ws
+
+abbrev pub next : State → ℕ → List Bytes → State
+next s n ws = next_by s.context.awaits s n ws
 
 abbrev pub Verdict : Type 0 → Type 0
 Verdict A = Result A (ℕ × ListKind)
@@ -111,7 +117,7 @@ walk_on None n go = go
 -- over lines of which the first is line n
 abbrev pub walk : State → ℕ → List Bytes → Verdict State
 walk s n [] = Ok s
-walk s n (l ∷ ls) = walk_on (judge s.context.awaits (words l)) n (walk (next s n l) (n + 1) ls)
+walk s n (l ∷ ls) = walk_on (judge s.context.awaits (words l)) n (walk (next s n (words l)) (n + 1) ls)
 
 abbrev pub limited : Option ℕ → State → Verdict State
 limited (Some n) s = Err (n, fault.Place)

@@ -10,3 +10,4 @@ pub mod Writing
 pub mod FewWords
 pub mod Answers
 pub mod Judging
+pub mod Reading

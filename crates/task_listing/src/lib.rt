@@ -5,6 +5,7 @@ mod fault;
 mod kind;
 mod number;
 mod operation;
+mod reading;
 mod row;
 mod rules;
 mod words;

@@ -13,26 +13,9 @@ pub(crate) enum Words<'a> {
     Four(&'a [u8], &'a [u8], &'a [u8], &'a [u8]),
     Five(&'a [u8], &'a [u8], &'a [u8], &'a [u8], &'a [u8]),
     Six(&'a [u8], &'a [u8], &'a [u8], &'a [u8], &'a [u8], &'a [u8]),
-    Seven(
-        &'a [u8],
-        &'a [u8],
-        &'a [u8],
-        &'a [u8],
-        &'a [u8],
-        &'a [u8],
-        &'a [u8],
-    ),
+    Seven(&'a [u8], &'a [u8], &'a [u8], &'a [u8], &'a [u8], &'a [u8], &'a [u8]),
     /// Seven words, and what stands behind the blank after them.
-    More(
-        &'a [u8],
-        &'a [u8],
-        &'a [u8],
-        &'a [u8],
-        &'a [u8],
-        &'a [u8],
-        &'a [u8],
-        &'a [u8],
-    ),
+    More(&'a [u8], &'a [u8], &'a [u8], &'a [u8], &'a [u8], &'a [u8], &'a [u8], &'a [u8]),
 }
 
 /// How many bytes a text begins with that are not this one.
