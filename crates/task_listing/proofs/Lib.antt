@@ -1,3 +1,4 @@
 pub mod Texts
 pub mod Decimals
 pub mod Prefixes
+pub mod Taken

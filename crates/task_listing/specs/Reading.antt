@@ -1,5 +1,5 @@
 -- What a reader stands for, and what the taking of a line makes of that.
-use Rattle.std.specs.Prelude.{◌≡◌, ℕ, List, [], ◌∷◌, ◌++◌, replicate, ◌==◌, Option, Some, None, Result, Ok, Err}
+use Rattle.std.specs.Prelude.{◌≡◌, ℕ, List, [], ◌∷◌, ◌++◌, replicate, ◌==◌, Bool, true, false, Option, Some, None, Result, Ok, Err}
 use Rattle.task_listing.specs.declared.fault.ListKind.{ListKind}
 use Rattle.task_listing.specs.declared.fault.ListFault.{ListFault}
 use Rattle.task_listing.specs.declared.fault.ListFault.TheVariants as list_fault
@@ -54,3 +54,17 @@ opened ks s n (p, ((message, room), (buffers, code))) = record {
 
 abbrev pub with_place : ℕ → Option Instr → State → State
 with_place n i s = record s { place = marked s.place (is_misplaced s.context (Ok i)) n }
+
+abbrev pub is_empty : List Kind → Bool
+is_empty [] = true
+is_empty (k ∷ ks) = false
+
+-- a fault is that of the verdict
+abbrev pub Judges : {A : Type 0} → Result A (ℕ × ListKind) → ListFault → Type 0
+Judges v (list_fault.At n k) = v ≡ Err (n, k)
+Judges v list_fault.NoMemory = Unit {0}
+
+-- an answer is that of the verdict
+abbrev pub Says : {A : Type 0} → Result A (ℕ × ListKind) → A → Result (Unit {0}) ListFault → Type 0
+Says v a (Ok u) = v ≡ Ok a
+Says v a (Err f) = Judges v f

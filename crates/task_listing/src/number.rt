@@ -1,5 +1,5 @@
 //! Words that are numbers, operations and types.
-ghost use Rattle.std.specs.Prelude.{◌≡◌, ◌≤◌, ◌^◌, ◌-◌, MatchOption, codes, ◌∷◌};
+ghost use Rattle.std.specs.Prelude.{◌≡◌, ◌≤◌, ◌^◌, ◌-◌, MatchOption, IfOk};
 ghost use Rattle.task_listing.specs.Numbers.{is_blank, has_blank, is_word, are_digits, is_positive, is_negative, is_number};
 ghost use Rattle.task_listing.specs.Answers.{number_in, negated, unsigned, literal_in, count_up_to, count, priority, operand, literal, unary_named, binary_named, scalar_named, index_type, type};
 
@@ -78,7 +78,8 @@ fn number_within(low: u64, high: u64, text: &[u8]) -> Option<u64>
 
 /// The number from `low` to `high` of which the bytes are the decimal text.
 fn number_in(low: u32, high: u32, text: &[u8]) -> Option<u32>
-    ensures { result ≡ number_in low high text.now }
+    ensures value { result ≡ number_in low high text.now }
+    ensures below { MatchOption result (Unit {0}) (λ n. n ≤ high) }
 {
     match number_within(u64::from(low), u64::from(high), text) {
         Some(number) => Some(number as u32),
@@ -120,7 +121,8 @@ fn literal_in(text: &[u8]) -> Option<i128>
 }
 
 fn count_up_to(most: u32, word: &[u8]) -> Result<u32, ListKind>
-    ensures { result ≡ count_up_to most word.now }
+    ensures value { result ≡ count_up_to most word.now }
+    ensures few { IfOk result (λ n. n ≤ most) }
 {
     if !is_word(word) {
         return Err(ListKind::Line);
@@ -139,10 +141,13 @@ pub(crate) fn count(word: &[u8]) -> Result<u32, ListKind>
 }
 
 /// The priority of a task.
-pub(crate) fn priority(word: &[u8]) -> Result<u32, ListKind>
+pub(crate) fn priority(word: &[u8]) -> Result<u8, ListKind>
     ensures { result ≡ priority word.now }
 {
-    count_up_to(255, word)
+    match count_up_to(255, word) {
+        Ok(number) => Ok(number as u8),
+        Err(kind) => Err(kind),
+    }
 }
 
 /// The operand of an instruction, or `None` where the number is none that an instruction has.

@@ -1,21 +1,26 @@
 //! Reads the listing of a program, line by line.
-ghost use Rattle.std.specs.Prelude.{◌≡◌, ◌<◌, ◌^◌, ◌+◌, [], true, OnOk};
+ghost use Rattle.std.specs.Prelude.{◌≡◌, ◌<◌, ◌≤◌, ◌^◌, ◌+◌, [], length, true, OnOk, IfOk, IfErr, Ok};
 ghost use Rattle.task_listing.specs.declared.kind.Kind.{Kind};
 ghost use Rattle.task_listing.specs.Context.{counted_to};
 ghost use Rattle.task_listing.specs.FewWords.{listed};
-ghost use Rattle.task_listing.specs.Answers.{title_line, ending_line, count_line, task_line, buffer_line};
-ghost use Rattle.task_listing.specs.Judging.{fault_in, begun, marked};
-ghost use Rattle.task_listing.specs.Reading.{opened, with_place, awaits_of, state_of, state_with, Takes, TakesAny};
+ghost use Rattle.task_listing.specs.Faults.{byte_limit};
+ghost use Rattle.task_listing.specs.Lines.{whole_lines, behind_lines};
+ghost use Rattle.task_listing.specs.Answers.{both, count, priority, title_line, ending_line, count_line, task_line, buffer_line};
+ghost use Rattle.task_listing.specs.Judging.{fault_in, begun, marked, walk, judged, closed, verdict};
+ghost use Rattle.task_listing.specs.Reading.{Judges, Says, is_empty, opened, with_place, awaits_of, state_of, state_with, Takes, TakesAny};
 
 use crate::fault::{ListFault, ListKind};
 use crate::number::{count, priority};
 use crate::operation::{both, instr_line};
 use crate::rules::{Head, Limits};
-use crate::words::Words;
+use crate::words::{Words, line_words, split_line};
 use sqlite_items::Items;
 use std::alloc::{AllocError, Global};
 use std::mem;
 use task_code::{Buffer, Instr, Task};
+
+/// How many bytes a text may have.
+const BYTE_LIMIT: usize = 67_108_864;
 
 /// The limit on all words.
 const WORD_LIMIT: u64 = 1_048_576;
@@ -121,24 +126,38 @@ fn buffer_line(words: Words<'_>) -> Result<(u32, u32), ListKind>
 }
 
 /// Priority; message and room; buffers and code.
-type TaskNumbers = (u32, ((u32, u32), (u32, u32)));
+type TaskNumbers = (u8, ((u32, u32), (u32, u32)));
+
+fn counts(a: &[u8], b: &[u8]) -> Result<(u32, u32), ListKind>
+    ensures { result ≡ both (count a.now) (count b.now) }
+{
+    both(count(a), count(b))
+}
 
 /// The numbers of a `task` line.
 fn task_line(words: Words<'_>) -> Result<TaskNumbers, ListKind>
     ensures { result ≡ task_line (listed words.entry) }
 {
     match words {
-        Words::Six(word, p, message, room, buffers, code) => {
+        Words::Six(word, first, message, room, buffers, code) => {
             if word == b"task".as_slice() {
-                let sizes = both(count(message), count(room));
-                let counts = both(count(buffers), count(code));
-                both(priority(p), both(sizes, counts))
+                task_numbers(first, counts(message, room), counts(buffers, code))
             } else {
                 Err(ListKind::Line)
             }
         }
         _ => Err(ListKind::Line),
     }
+}
+
+fn task_numbers(
+    first: &[u8],
+    sizes: Result<(u32, u32), ListKind>,
+    counts: Result<(u32, u32), ListKind>,
+) -> Result<TaskNumbers, ListKind>
+    ensures { result ≡ both (priority first.now) (both sizes counts) }
+{
+    both(priority(first), both(sizes, counts))
 }
 
 /// A sum that counts no further than 1 above a limit.
@@ -282,7 +301,7 @@ impl Reader {
     {
         let (priority, ((message, room), (buffers, code))) = numbers;
         self.is_open = true;
-        self.priority = priority as u8;
+        self.priority = priority;
         self.head = Head {
             message,
             room,
@@ -416,5 +435,81 @@ impl Reader {
                 Err(ListFault::At { line, kind })
             }
         }
+    }
+
+    /// Takes the whole lines of a text, and answers how many they are, and what stands behind them.
+    fn take_lines<'a>(&mut self, text: &'a [u8]) -> Result<(u32, &'a [u8]), ListFault>
+        requires { length text.now ≤ byte_limit }
+        ensures walked { IfOk result (λ r. walk (state_of self.old) 1 (whole_lines text.now) ≡ Ok (state_of self.new)) }
+        ensures lines { IfOk result (λ r. length (whole_lines text.now) ≡ r.0) }
+        ensures behind { IfOk result (λ r. behind_lines text.now ≡ r.1.now) }
+        ensures few { IfOk result (λ r. r.0 ≤ byte_limit) }
+        ensures fault { IfErr result (λ f. Judges (walk (state_of self.old) 1 (whole_lines text.now)) f) }
+    {
+        let mut lines = 0;
+        let mut rest = text;
+        while let Some((line, behind)) = split_line(rest) {
+            let number = lines + 1;
+            self.take(number, line_words(line))?;
+            lines = number;
+            rest = behind;
+        }
+        Ok((lines, rest))
+    }
+
+    /// The fault of a text whose lines were taken, where one of them breaks a rule, or they are too much together.
+    fn judge(&self) -> Result<(), ListFault>
+        ensures { Says (judged (state_of self.now)) (state_of self.now) result }
+    {
+        if let Some(line) = self.place {
+            let kind = ListKind::Place;
+            return Err(ListFault::At { line, kind });
+        }
+        if self.words > WORD_LIMIT || self.instructions > INSTR_LIMIT {
+            let kind = ListKind::Limit;
+            return Err(ListFault::At { line: 0, kind });
+        }
+        Ok(())
+    }
+
+    fn is_done(&self) -> bool
+        ensures { result ≡ is_empty (awaits_of self.now.stage) }
+    {
+        matches!(self.stage, Stage::Done)
+    }
+
+    /// The fault of a text of which so many whole lines were taken, and behind which this stands.
+    fn finish(&mut self, lines: u32, last: &[u8]) -> Result<(), ListFault>
+        requires { lines ≤ byte_limit }
+        ensures ok { OnOk result ((closed last.now lines (state_of self.old) ≡ Ok (state_of self.old)) × (self.new ≡ self.old)) }
+        ensures fault { IfErr result (λ f. Judges (closed last.now lines (state_of self.old)) f) }
+    {
+        let line = lines + 1;
+        if !last.is_empty() {
+            self.take(line, line_words(last))?;
+            let line = line + 1;
+            let kind = ListKind::Short;
+            return Err(ListFault::At { line, kind });
+        }
+        if !self.is_done() {
+            let kind = ListKind::Short;
+            return Err(ListFault::At { line, kind });
+        }
+        self.judge()
+    }
+
+    /// Reads a text to its end.
+    pub(crate) fn read(alloc: Global, text: &[u8]) -> Result<Reader, ListFault>
+        ensures ok { IfOk result (λ r. verdict text.now ≡ Ok (state_of r)) }
+        ensures fault { IfErr result (λ f. Judges (verdict text.now) f) }
+    {
+        if text.len() > BYTE_LIMIT {
+            let kind = ListKind::Long;
+            return Err(ListFault::At { line: 0, kind });
+        }
+        let mut reader = Reader::new(alloc);
+        let (lines, last) = reader.take_lines(text)?;
+        reader.finish(lines, last)?;
+        Ok(reader)
     }
 }

@@ -1,7 +1,7 @@
 //! The words of a line.
-ghost use Rattle.std.specs.Prelude.{◌≡◌, ◌≤◌, [], ◌∷◌, length, MatchOption};
+ghost use Rattle.std.specs.Prelude.{◌≡◌, ◌<◌, ◌≤◌, [], ◌∷◌, length, MatchOption};
 ghost use Rattle.std.specs.List.{prefix_len};
-ghost use Rattle.task_listing.specs.Lines.{words};
+ghost use Rattle.task_listing.specs.Lines.{words, whole_lines, behind_lines};
 ghost use Rattle.task_listing.specs.FewWords.{listed, is_other};
 
 /// The words of a line, where they are few.
@@ -42,6 +42,20 @@ fn split_word(line: &[u8]) -> (&[u8], Option<&[u8]>)
     }
     let next = len + 1;
     (word, Some(&line[next..]))
+}
+
+/// The first whole line of a text, without its LF, and what stands behind it.
+pub(crate) fn split_line(text: &[u8]) -> Option<(&[u8], &[u8])>
+    ensures lines { MatchOption result (whole_lines text.now ≡ []) (λ r. whole_lines text.now ≡ r.0.now ∷ whole_lines r.1.now) }
+    ensures behind { MatchOption result (behind_lines text.now ≡ text.now) (λ r. behind_lines text.now ≡ behind_lines r.1.now) }
+    ensures shorter { MatchOption result (Unit {0}) (λ r. length r.1.now < length text.now) }
+{
+    let len = len_before(b'\n', text);
+    if len == text.len() {
+        return None;
+    }
+    let next = len + 1;
+    Some((&text[..len], &text[next..]))
 }
 
 /// The words of a line.
