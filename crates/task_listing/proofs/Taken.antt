@@ -11,12 +11,12 @@ use Rattle.task_listing.specs.declared.kind.Kind.TheVariants as kind
 use Rattle.task_listing.specs.declared.reading.Stage.{Stage}
 use Rattle.task_listing.specs.declared.reading.Stage.TheVariants as stage
 use Rattle.task_listing.specs.declared.reading.Reader.{Reader}
-use Rattle.task_listing.specs.Lines.{Bytes}
+use Rattle.task_listing.specs.Lines.{Bytes, words}
 use Rattle.task_listing.specs.Numbers.{is_word}
 use Rattle.task_listing.specs.Context.{numbers, behind}
 use Rattle.task_listing.specs.Answers.{Answer, when, number_in, or_err, count_up_to, count, priority, both, task_line}
-use Rattle.task_listing.specs.Judging.{State, judge, judge_kind, next_kind, next_by, fault_in, with_awaits, marked, is_zero}
-use Rattle.task_listing.specs.Reading.{awaits_of, state_of, Takes, TakesAny, opened}
+use Rattle.task_listing.specs.Judging.{State, judge, judge_kind, next_kind, next_by, next, walk, walk_on, fault_in, with_awaits, marked, is_zero}
+use Rattle.task_listing.specs.Reading.{is_empty, awaits_of, state_of, Takes, TakesAny, opened}
 
 pub takes_any : (k : Kind) (ks : List Kind) (old new : Reader) (n : ℕ) (ws : List Bytes) (r : Result (Unit {0}) ListFault) → awaits_of old.stage ≡ k ∷ ks → Takes k ks old new n ws r → TakesAny old new n ws r
 takes_any k ks old new n ws (Ok u) e h = (ap (λ ls. judge ls ws) e ∙ h.0, h.1 ∙ sym (ap (λ ls. next_by ls (state_of old) n ws) e))
@@ -113,3 +113,33 @@ task_taken ks s new n ws t h e = (ap fault_in h, e ∙ opened_is ks s n ws t (ta
 
 pub task_six : (w p m r b c : Bytes) → bytes_eq w (codes "task") ≡ true → both (priority p) (both (both (count m) (count r)) (both (count b) (count c))) ≡ task_line (w ∷ p ∷ m ∷ r ∷ b ∷ c ∷ [])
 task_six w p m r b c e = ap (λ t. cond t (both (priority p) (both (both (count m) (count r)) (both (count b) (count c)))) (Err fault.Line)) (sym e)
+
+-- ---- lines are awaited
+
+awaits_some : (k j : Kind) (ks : List Kind) (n : ℕ) → is_empty (replicate n k ++ j ∷ ks) ≡ false
+awaits_some k j ks zero = refl
+awaits_some k j ks (suc n) = refl
+
+some_behind : (k j : Kind) (js ks : List Kind) (n : ℕ) → is_empty (js ++ replicate n k ++ j ∷ ks) ≡ false
+some_behind k j [] ks n = awaits_some k j ks n
+some_behind k j (i ∷ js) ks n = refl
+
+pub monitors_left : (n : ℕ) → is_empty (awaits_of (stage.MonitorLines n)) ≡ false
+monitors_left n = awaits_some kind.Monitor kind.Outputs (kind.Tasks ∷ kind.Ending ∷ []) n
+
+pub outputs_left : (n : ℕ) → is_empty (awaits_of (stage.OutputLines n)) ≡ false
+outputs_left n = awaits_some kind.Output kind.Tasks (kind.Ending ∷ []) n
+
+pub tasks_left : (b c t : ℕ) → is_empty (awaits_of (stage.TaskLines b c t)) ≡ false
+tasks_left b c t = some_behind kind.Task kind.Ending (replicate b kind.Buffer ++ replicate c kind.Instruction) [] t
+
+-- ---- the walk
+
+pub walk_step : (s new : State) (n : ℕ) (l : Bytes) (ls ws : List Bytes) → words l ≡ ws → judge s.context.awaits ws ≡ None → new ≡ next s n ws → walk s n (l ∷ ls) ≡ walk new (n + 1) ls
+walk_step s new n l ls ws e h f =
+    ap (λ k. walk_on k n (walk (next s n (words l)) (n + 1) ls)) (ap (judge s.context.awaits) e ∙ h)
+    ∙ ap (λ ws. walk (next s n ws) (n + 1) ls) e
+    ∙ ap (λ s. walk s (n + 1) ls) (sym f)
+
+pub walk_stop : (s : State) (n : ℕ) (l : Bytes) (ls ws : List Bytes) (k : ListKind) → words l ≡ ws → judge s.context.awaits ws ≡ Some k → walk s n (l ∷ ls) ≡ Err (n, k)
+walk_stop s n l ls ws k e h = ap (λ k. walk_on k n (walk (next s n (words l)) (n + 1) ls)) (ap (judge s.context.awaits) e ∙ h)

@@ -421,15 +421,23 @@ impl Reader {
         match self.stage {
             Stage::Title => self.take_title(line, words),
             Stage::Monitors => self.take_monitors(line, words),
-            Stage::MonitorLines(0) => self.take_outputs(line, words),
-            Stage::MonitorLines(left) => self.take_monitor(left - 1, line, words),
-            Stage::OutputLines(0) => self.take_tasks(line, words),
-            Stage::OutputLines(left) => self.take_output(left - 1, line, words),
-            Stage::TaskLines(buffers, code, tasks) => self.take_of_tasks(
-                (buffers, code, tasks),
-                line,
-                words,
-            ),
+            Stage::MonitorLines(left) => {
+                if left > 0 {
+                    self.take_monitor(left - 1, line, words)
+                } else {
+                    self.take_outputs(line, words)
+                }
+            }
+            Stage::OutputLines(left) => {
+                if left > 0 {
+                    self.take_output(left - 1, line, words)
+                } else {
+                    self.take_tasks(line, words)
+                }
+            }
+            Stage::TaskLines(buffers, code, tasks) => {
+                self.take_of_tasks((buffers, code, tasks), line, words)
+            }
             Stage::Done => {
                 let kind = ListKind::After;
                 Err(ListFault::At { line, kind })
@@ -475,7 +483,13 @@ impl Reader {
     fn is_done(&self) -> bool
         ensures { result ≡ is_empty (awaits_of self.now.stage) }
     {
-        matches!(self.stage, Stage::Done)
+        match self.stage {
+            Stage::Done => true,
+            Stage::Title | Stage::Monitors => false,
+            Stage::MonitorLines(_) => false,
+            Stage::OutputLines(_) => false,
+            Stage::TaskLines(_, _, _) => false,
+        }
     }
 
     /// The fault of a text of which so many whole lines were taken, and behind which this stands.
