@@ -33,6 +33,12 @@ awaits_monitors n h = ap (λ l. l ++ kind.Outputs ∷ kind.Tasks ∷ kind.Ending
 pub awaits_outputs : (n : ℕ) → 0 < n → awaits_of (stage.OutputLines n) ≡ kind.Output ∷ awaits_of (stage.OutputLines (n - 1))
 awaits_outputs n h = ap (λ l. l ++ kind.Tasks ∷ kind.Ending ∷ []) (replicate_more kind.Output n h)
 
+pub awaits_no_monitors : (n : ℕ) → n ≡ 0 → awaits_of (stage.MonitorLines n) ≡ kind.Outputs ∷ awaits_of (stage.OutputLines 0)
+awaits_no_monitors n e = ap (λ n. awaits_of (stage.MonitorLines n)) e
+
+pub awaits_no_outputs : (n : ℕ) → n ≡ 0 → awaits_of (stage.OutputLines n) ≡ kind.Tasks ∷ awaits_of (stage.TaskLines 0 0 0)
+awaits_no_outputs n e = ap (λ n. awaits_of (stage.OutputLines n)) e
+
 pub awaits_buffers : (b c t : ℕ) → 0 < b → awaits_of (stage.TaskLines b c t) ≡ kind.Buffer ∷ awaits_of (stage.TaskLines (b - 1) c t)
 awaits_buffers b c t h = ap (λ l. (l ++ replicate c kind.Instruction) ++ replicate t kind.Task ++ kind.Ending ∷ []) (replicate_more kind.Buffer b h)
 
