@@ -2,6 +2,7 @@
 #![tactic(auto)]
 
 mod fault;
+mod faults;
 mod kind;
 mod number;
 mod operation;
@@ -12,4 +13,8 @@ mod words;
 mod writing;
 
 pub use fault::{ListFault, ListKind};
+pub use faults::find_fault;
 pub use writing::write;
+
+#[cfg(test)]
+mod tests;
