@@ -10,9 +10,8 @@ use Rattle.task_listing.specs.declared.fault.ListKind.TheVariants as fault
 use Rattle.task_listing.specs.declared.kind.Kind.{Kind}
 use Rattle.task_listing.specs.declared.kind.Kind.TheVariants as kind
 use Rattle.task_listing.specs.declared.rules.Head.{Head}
-use Rattle.task_listing.specs.Lines.{Bytes, words, whole_lines, behind_lines}
+use Rattle.task_listing.specs.Lines.{Bytes, byte_limit, words, whole_lines, behind_lines}
 use Rattle.task_listing.specs.Context.{Context, start, behind, numbers}
-use Rattle.task_listing.specs.Faults.{byte_limit}
 use Rattle.task_listing.specs.Answers.{Answer, title_line, count_line, task_line, buffer_line, instr_line, ending_line}
 
 abbrev pub fault_in : {A : Type 0} → Answer A → Option ListKind
@@ -77,6 +76,10 @@ breaks_kind kind.Task c ws = is_zero (slice_get (numbers ws) 1)
 breaks_kind kind.Buffer c ws = is_zero (slice_get (numbers ws) 0)
 breaks_kind kind.Instruction c ws = is_misplaced c (instr_line ws)
 breaks_kind _ c ws = false
+
+abbrev pub breaks : List Kind → Context → List Bytes → Bool
+breaks [] c ws = false
+breaks (k ∷ ks) c ws = breaks_kind k (record c { awaits = ks }) ws
 
 -- ---- the walk
 

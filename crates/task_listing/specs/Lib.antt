@@ -11,3 +11,4 @@ pub mod FewWords
 pub mod Answers
 pub mod Judging
 pub mod Reading
+pub mod Laws

@@ -1,9 +1,13 @@
 -- The lines of a text, and the words of a line.
-use Rattle.std.specs.Prelude.{◌≡◌, ℕ, ◌+◌, List, [], ◌∷◌, ◌++◌, length, Bool, true, false, ◌==◌}
+use Rattle.std.specs.Prelude.{ℕ, List, [], ◌∷◌, ◌++◌, Bool, true, false, ◌==◌}
 use Rattle.std.specs.List.{slice_split, join_with_byte}
 
 abbrev pub Bytes : Type 0
 Bytes = List ℕ
+
+-- how many bytes a text may have
+abbrev pub byte_limit : ℕ
+byte_limit = 67108864
 
 -- ---- writing
 
@@ -53,9 +57,3 @@ lines text = whole_lines text ++ if_any (behind_lines text)
 -- what stands between the blanks of a line
 abbrev pub words : Bytes → List Bytes
 words l = slice_split (λ b. b == 32) l
-
--- line n of a text, counted from 1, and the lines before it
-pub record IsLine (text : Bytes) (n : ℕ) (before : List Bytes) (l : Bytes) : Type 0 where
-  pub behind : List Bytes
-  pub split : lines text ≡ before ++ l ∷ behind
-  pub number : n ≡ length before + 1

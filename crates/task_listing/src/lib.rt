@@ -4,6 +4,7 @@
 mod fault;
 mod faults;
 mod kind;
+pub mod laws;
 mod number;
 mod operation;
 mod reading;

@@ -3,8 +3,7 @@ ghost use Rattle.std.specs.Prelude.{◌≡◌, ◌<◌, ◌≤◌, ◌^◌, ◌+
 ghost use Rattle.task_listing.specs.declared.kind.Kind.{Kind};
 ghost use Rattle.task_listing.specs.Context.{counted_to};
 ghost use Rattle.task_listing.specs.FewWords.{listed};
-ghost use Rattle.task_listing.specs.Faults.{byte_limit};
-ghost use Rattle.task_listing.specs.Lines.{whole_lines, behind_lines};
+ghost use Rattle.task_listing.specs.Lines.{byte_limit, whole_lines, behind_lines};
 ghost use Rattle.task_listing.specs.Answers.{both, count, priority, title_line, ending_line, count_line, task_line, buffer_line};
 ghost use Rattle.task_listing.specs.Judging.{fault_in, begun, marked, walk, judged, closed, verdict};
 ghost use Rattle.task_listing.specs.Reading.{Judges, Says, is_empty, opened, with_place, awaits_of, state_of, state_with, Takes, TakesAny};
