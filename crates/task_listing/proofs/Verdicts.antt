@@ -9,8 +9,11 @@ use Rattle.task_listing.specs.declared.fault.ListKind.TheVariants as fault
 use Rattle.task_listing.specs.declared.kind.Kind.{Kind}
 use Rattle.task_listing.specs.Lines.{Bytes, byte_limit, lines, whole_lines, behind_lines, if_any, words}
 use Rattle.task_listing.specs.Context.{Context, start, context, behind_line}
-use Rattle.task_listing.specs.Faults.{OffendsAt, OffendsFrom, Offends, a_long_text, a_line, a_short_text, too_many_words, too_many_instructions, rank, Precedes, IsFirst, IsFaultless}
-use Rattle.task_listing.specs.Laws.{FaultIsFirst}
+use Rattle.task_listing.specs.Faults.{OffendsAt, OffendsFrom, Offends, a_long_text, a_line, a_short_text, too_many_words, too_many_instructions, rank, Precedes, IsFirst, IsFaultless, IsTold}
+use Rattle.task_listing.specs.declared.fault.ListFault.{ListFault}
+use Rattle.task_listing.specs.declared.fault.ListFault.TheVariants as list_fault
+use Rattle.task_listing.specs.Laws.{FaultIsFirst, NoneIsFaultless}
+use Rattle.task_listing.specs.Reading.{Judges}
 use Rattle.task_listing.specs.Judging.{State, begun, judge, walk, walk_on, limited, judged, ended, closed, finished, verdict, Verdict}
 use Rattle.task_listing.proofs.Firsts.{FirstFrom, PlaceIs, judge_ranks, first_here, stopped_first, stopped_end, walked_context, walked_place, walked_only, from_split, from_right, from_ranks}
 
@@ -201,6 +204,31 @@ module _ (bs : Bytes) (s : State) (short : length bs ≤ byte_limit) (h : walk b
   closed_first [] e n k w = by_awaits e s.context.awaits refl n k w
   closed_first (b ∷ l) e n k w = last_by b l e (judge s.context.awaits (words (b ∷ l))) refl n k w
 
+  limit_none : behind_lines bs ≡ [] → s.context.awaits ≡ [] → s.place ≡ None → (a b : Bool) → nat_lt most_words s.context.words ≡ a → nat_lt most_instructions s.context.instructions ≡ b → (t : State)
+      → cond (a || b) (limit_at 0) (taken s) ≡ Ok t → IsFaultless bs
+  limit_none e z g true b p q t w = cc
+  limit_none e z g false true p q t w = cc
+  limit_none e z g false false p q t w =
+      no_fault bs short (ap (λ c. c.awaits) here ∙ z) (subst (λ o. PlaceIs start 1 (lines bs) o) g (places e))
+      (subst (λ c. c.words ≤ most_words) (sym (lines_here e)) (ltb-false most_words s.context.words p))
+      (subst (λ c. c.instructions ≤ most_instructions) (sym (lines_here e)) (ltb-false most_instructions s.context.instructions q))
+
+  place_none : behind_lines bs ≡ [] → s.context.awaits ≡ [] → (o : Option ℕ) → s.place ≡ o → (t : State) → limited o s ≡ Ok t → IsFaultless bs
+  place_none e z (Some m) g t w = cc
+  place_none e z None g t w = limit_none e z g _ _ refl refl t w
+
+  awaits_none : behind_lines bs ≡ [] → (ks : List Kind) → s.context.awaits ≡ ks → (t : State) → ended ks (length (whole_lines bs)) s ≡ Ok t → IsFaultless bs
+  awaits_none e [] z t w = place_none e z s.place refl t w
+  awaits_none e (i ∷ ks) z t w = cc
+
+  last_none : (o : Option ListKind) (t : State) → walk_on o (length (whole_lines bs) + 1) (short_at (length (whole_lines bs) + 2)) ≡ Ok t → IsFaultless bs
+  last_none (Some j) t w = cc
+  last_none None t w = cc
+
+  pub closed_none : (l : Bytes) → behind_lines bs ≡ l → (t : State) → closed l (length (whole_lines bs)) s ≡ Ok t → IsFaultless bs
+  closed_none [] e t w = awaits_none e s.context.awaits refl t w
+  closed_none (b ∷ l) e t w = last_none (judge s.context.awaits (words (b ∷ l))) t w
+
 by_walk : (bs : Bytes) → length bs ≤ byte_limit → (r : Verdict State) → walk begun 1 (whole_lines bs) ≡ r → (n : ℕ) (k : ListKind) → finished (behind_lines bs) (length (whole_lines bs)) r ≡ Err (n, k) → IsFirst bs n k
 by_walk bs short (Ok s) e n k h = closed_first bs s short e (behind_lines bs) refl n k h
 by_walk bs short (Err (m, j)) e n k h = let x : (m, j) ≡ (n, k) = cc in subst (λ (y : ℕ × ListKind). IsFirst bs y.0 y.1) x (walk_first bs m j short e)
@@ -212,3 +240,20 @@ by_length bs false e n k h = by_walk bs (ltb-false byte_limit (length bs) e) (wa
 -- the verdict is the first of what offends
 pub fault_is_first : FaultIsFirst
 fault_is_first bs n k h = by_length bs (nat_lt byte_limit (length bs)) refl n k h
+
+none_by_walk : (bs : Bytes) → length bs ≤ byte_limit → (r : Verdict State) → walk begun 1 (whole_lines bs) ≡ r → (t : State) → finished (behind_lines bs) (length (whole_lines bs)) r ≡ Ok t → IsFaultless bs
+none_by_walk bs short (Ok s) e t h = closed_none bs s short e (behind_lines bs) refl t h
+none_by_walk bs short (Err f) e t h = cc
+
+none_by_length : (bs : Bytes) (b : Bool) → nat_lt byte_limit (length bs) ≡ b → (t : State) → cond b (long_at 0) (finished (behind_lines bs) (length (whole_lines bs)) (walk begun 1 (whole_lines bs))) ≡ Ok t → IsFaultless bs
+none_by_length bs true e t h = cc
+none_by_length bs false e t h = none_by_walk bs (ltb-false byte_limit (length bs) e) (walk begun 1 (whole_lines bs)) refl t h
+
+-- a text whose verdict is no fault has none
+pub none_is_faultless : NoneIsFaultless
+none_is_faultless bs t h = none_by_length bs (nat_lt byte_limit (length bs)) refl t h
+
+-- what a reader tells is the fault of the text
+pub is_told : (bs : Bytes) (f : ListFault) → Judges (verdict bs) f → IsTold bs f
+is_told bs (list_fault.At n k) h = fault_is_first bs n k h
+is_told bs list_fault.NoMemory h = h

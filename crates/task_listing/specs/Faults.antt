@@ -3,6 +3,8 @@ use Rattle.std.specs.Prelude.{◌≡◌, ◌≢◌, ◌⊎◌, ◌<◌, ℕ, ◌
 use Rattle.task_code.specs.Rules.{most_words, most_instructions}
 use Rattle.task_listing.specs.declared.fault.ListKind.{ListKind}
 use Rattle.task_listing.specs.declared.fault.ListKind.TheVariants as fault
+use Rattle.task_listing.specs.declared.fault.ListFault.{ListFault}
+use Rattle.task_listing.specs.declared.fault.ListFault.TheVariants as list_fault
 use Rattle.task_listing.specs.Lines.{Bytes, byte_limit, lines, whole_lines, words}
 use Rattle.task_listing.specs.Context.{Context, start, behind_line, context}
 use Rattle.task_listing.specs.Judging.{judge, breaks}
@@ -47,3 +49,8 @@ pub record IsFirst (bs : Bytes) (n : ℕ) (k : ListKind) : Type 0 where
 -- a text with no fault
 abbrev pub IsFaultless : Bytes → Type 0
 IsFaultless bs = (m : ℕ) (j : ListKind) → Offends bs m j → ⊥
+
+-- a fault is told that is the first
+abbrev pub IsTold : Bytes → ListFault → Type 0
+IsTold bs (list_fault.At n k) = IsFirst bs n k
+IsTold bs list_fault.NoMemory = Unit {0}
