@@ -43,6 +43,7 @@ place_first bs m short none p = record { offends = a_line p.0; precedes = others
     ordered : (i : ℕ) (j : ListKind) → j ≡ fault.Place → (m ≡ i) ⊎ (m < i) → ((i ≡ m) × (j ≡ fault.Place)) ⊎ Precedes m fault.Place i j
     ordered i j e (inl q) = inl (sym q, e)
     ordered i j e (inr q) = inr (inr (sym (ap rank e), q))
+
     others : (i : ℕ) (j : ListKind) → Offends bs i j → ((i ≡ m) × (j ≡ fault.Place)) ⊎ Precedes m fault.Place i j
     others i j (a_long_text h) = absurd (omega (arith, short, h))
     others i j (a_line o) = ordered i j (p.1 i j o).0 (eq-or-lt_of_le (p.1 i j o).1)
@@ -100,6 +101,7 @@ walk_first bs m k short h = line_first bs m k short (stopped_first begun 1 (whol
     low_of : (rank k ≡ 1) ⊎ ((context (whole_lines bs)).awaits ≡ []) → (context (whole_lines bs)).awaits ≢ [] → rank k ≡ 1
     low_of (inl r) ne = r
     low_of (inr e) ne = absurd (ne e)
+
     low : (context (whole_lines bs)).awaits ≢ [] → rank k ≡ 1
     low = low_of (stopped_end begun 1 (whole_lines bs) m k h)
 
@@ -114,9 +116,11 @@ module _ (bs : Bytes) (s : State) (short : length bs ≤ byte_limit) (h : walk b
     where
       f : FirstFrom (context (whole_lines bs)) (1 + length (whole_lines bs)) (l ∷ []) (1 + length (whole_lines bs)) k
       f = first_here (context (whole_lines bs)) (1 + length (whole_lines bs)) l [] k (ap (λ c. judge c.awaits (words l)) here ∙ e)
+
       of_part : (i : ℕ) (j : ListKind) → OffendsFrom start 1 (whole_lines bs) i j ⊎ OffendsFrom (context (whole_lines bs)) (1 + length (whole_lines bs)) (l ∷ []) i j → ((i ≡ 1 + length (whole_lines bs)) × (j ≡ k)) ⊎ Precedes (1 + length (whole_lines bs)) k i j
       of_part i j (inl o) = let r : rank j ≡ 4 = ap rank (walked_only begun 1 (whole_lines bs) s i j h o) in let q = f.soon in inr (inl (omega (arith, r, q)))
       of_part i j (inr o) = f.precedes i j o
+
       others : (i : ℕ) (j : ListKind) → OffendsFrom start 1 (whole_lines bs ++ l ∷ []) i j → ((i ≡ 1 + length (whole_lines bs)) × (j ≡ k)) ⊎ Precedes (1 + length (whole_lines bs)) k i j
       others i j o = of_part i j (from_split start 1 (whole_lines bs) (l ∷ []) i j o)
 

@@ -64,12 +64,3 @@ behind_line c l = behind_awaited c.awaits l c
 
 abbrev pub context : List Bytes → Context
 context ls = fold behind_line start ls
-
--- a task of a program of which this much is known
-pub record IsSetting (c : Context) (p : Program) (t : Task) : Type 0 where
-  pub monitors : p.monitors ≡ c.monitors
-  pub outputs : p.outputs ≡ c.outputs
-  pub message : t.message ≡ c.head.message
-  pub room : t.room ≡ c.head.room
-  pub buffers : length t.buffers ≡ c.head.buffers
-  pub code : length t.code ≡ c.head.code

@@ -2,7 +2,6 @@ pub mod Lines
 pub mod Numbers
 pub mod Spelling
 pub mod Listing
-pub mod Forms
 pub mod Context
 pub mod Faults
 pub mod Rows
