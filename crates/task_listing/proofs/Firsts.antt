@@ -1,5 +1,5 @@
 -- The verdict of a text is its first fault.
-use Rattle.std.proofs.Common.{◌≡◌, ◌≢◌, ◌⊎◌, ◌∙◌, inl, inr, ℕ, zero, suc, ◌+◌, ◌<◌, ◌≤◌, List, [], ◌∷◌, ◌++◌, length, Bool, true, false, cond, Option, Some, None, Result, Ok, Err, refl, sym, ap, subst, arith, fold}
+use Rattle.std.proofs.Common.{◌≡◌, ◌⊎◌, ◌∙◌, inl, inr, ℕ, zero, suc, ◌+◌, ◌<◌, ◌≤◌, List, [], ◌∷◌, ◌++◌, length, Bool, true, false, Option, Some, None, Ok, Err, refl, sym, ap, subst, arith, fold}
 use Rattle.task_listing.specs.declared.fault.ListKind.{ListKind}
 use Rattle.task_listing.specs.declared.fault.ListKind.TheVariants as fault
 use Rattle.task_listing.specs.declared.kind.Kind.{Kind}

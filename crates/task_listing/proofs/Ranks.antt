@@ -1,6 +1,6 @@
 -- A line by itself is wrong in one of two ways.
 use Rattle.std.proofs.Common.{◌≡◌, ℕ, List, [], ◌∷◌, Bool, true, false, cond, Option, Some, None, Ok, Err, refl, sym, ap, ◌∙◌}
-use Rattle.std.specs.Prelude.{codes, bytes_eq, ◌&&◌}
+use Rattle.std.specs.Prelude.{codes, bytes_eq}
 use Rattle.tower_types.specs.declared.scalar.Scalar.{Scalar}
 use Rattle.task_listing.specs.declared.fault.ListKind.{ListKind}
 use Rattle.task_listing.specs.declared.fault.ListKind.TheVariants as fault
@@ -8,7 +8,7 @@ use Rattle.task_listing.specs.declared.kind.Kind.{Kind}
 use Rattle.task_listing.specs.declared.kind.Kind.TheVariants as kind
 use Rattle.task_listing.specs.Lines.{Bytes}
 use Rattle.task_listing.specs.Numbers.{is_word, is_number}
-use Rattle.task_listing.specs.Answers.{Answer, or_err, if_word, count_up_to, count, priority, any_number, operand, literal, unary_named, binary_named, scalar_named, index_type, type_of, type, number_in, worse, both, and_then, title_line, ending_line, count_line, buffer_line, task_line, plain_named, plain_instr, one_named, two_named, three_named, with_one, with_two, with_three, push, one_line, two_line, three_line, literal_line, cast_line, unary_line, binary_line, plain_line, instr_line}
+use Rattle.task_listing.specs.Answers.{Answer, or_err, count_up_to, count, priority, any_number, operand, literal, unary_named, binary_named, scalar_named, index_type, type_of, type, number_in, worse, both, and_then, title_line, ending_line, count_line, buffer_line, task_line, plain_named, one_named, two_named, three_named, one_line, two_line, three_line, literal_line, cast_line, unary_line, binary_line, instr_line}
 use Rattle.task_listing.specs.Judging.{judge_kind, fault_in}
 use Rattle.task_listing.specs.Faults.{rank}
 

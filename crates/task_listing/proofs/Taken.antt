@@ -1,6 +1,6 @@
 -- The lines that are awaited, and what one line makes of a reader.
-use Rattle.std.proofs.Common.{◌≡◌, ◌∙◌, ℕ, zero, suc, ◌+◌, ◌-◌, ◌<◌, ◌≤◌, List, [], ◌∷◌, ◌++◌, Bool, true, false, cond, Option, Some, None, Result, Ok, Err, refl, sym, ap, arith, replicate, slice_get}
-use Rattle.std.specs.Prelude.{codes, bytes_eq, nat_le, ◌&&◌, decimal}
+use Rattle.std.proofs.Common.{◌≡◌, ◌∙◌, ℕ, zero, suc, ◌+◌, ◌-◌, ◌<◌, List, [], ◌∷◌, ◌++◌, Bool, true, false, cond, Option, Some, None, Result, Ok, Err, refl, sym, ap, arith, replicate, slice_get}
+use Rattle.std.specs.Prelude.{codes, bytes_eq}
 use Rattle.std.specs.Str.Parse.{digits_value}
 use Rattle.task_listing.specs.declared.fault.ListKind.{ListKind}
 use Rattle.task_listing.specs.declared.fault.ListKind.TheVariants as fault
@@ -8,14 +8,13 @@ use Rattle.task_listing.specs.declared.fault.ListFault.{ListFault}
 use Rattle.task_listing.specs.declared.fault.ListFault.TheVariants as list_fault
 use Rattle.task_listing.specs.declared.kind.Kind.{Kind}
 use Rattle.task_listing.specs.declared.kind.Kind.TheVariants as kind
-use Rattle.task_listing.specs.declared.reading.Stage.{Stage}
 use Rattle.task_listing.specs.declared.reading.Stage.TheVariants as stage
 use Rattle.task_listing.specs.declared.reading.Reader.{Reader}
 use Rattle.task_listing.specs.Lines.{Bytes, words}
 use Rattle.task_listing.specs.Numbers.{is_word}
 use Rattle.task_listing.specs.Context.{numbers, behind}
 use Rattle.task_listing.specs.Answers.{Answer, when, number_in, or_err, count_up_to, count, priority, both, task_line}
-use Rattle.task_listing.specs.Judging.{State, judge, judge_kind, next_kind, next_by, next, walk, walk_on, fault_in, with_awaits, marked, is_zero}
+use Rattle.task_listing.specs.Judging.{State, judge, next_kind, next_by, next, walk, walk_on, fault_in, with_awaits, marked, is_zero}
 use Rattle.task_listing.specs.Reading.{is_empty, awaits_of, state_of, Takes, TakesAny, opened}
 
 pub takes_any : (k : Kind) (ks : List Kind) (old new : Reader) (n : ℕ) (ws : List Bytes) (r : Result (Unit {0}) ListFault) → awaits_of old.stage ≡ k ∷ ks → Takes k ks old new n ws r → TakesAny old new n ws r

@@ -1,5 +1,5 @@
 -- The verdict of a whole text.
-use Rattle.std.proofs.Common.{◌≡◌, ◌≢◌, ◌⊎◌, ◌∙◌, inl, inr, ℕ, zero, suc, ◌+◌, ◌<◌, ◌≤◌, List, [], ◌∷◌, ◌++◌, length, Bool, true, false, cond, Option, Some, None, Result, Ok, Err, refl, sym, ap, subst, arith, fold, append-nil, length-append}
+use Rattle.std.proofs.Common.{◌≡◌, ◌≢◌, ◌⊎◌, ◌∙◌, inl, inr, ℕ, ◌+◌, ◌<◌, ◌≤◌, List, [], ◌∷◌, ◌++◌, length, Bool, true, false, cond, Option, Some, None, Ok, Err, refl, sym, ap, subst, arith, append-nil, length-append}
 use Rattle.std.specs.Prelude.{nat_lt, ◌||◌}
 use Rattle.std.proofs.lemmas.Bool.{ltb-true, ltb-false}
 use Rattle.std.proofs.Math.Nat.{eq-or-lt_of_le}
@@ -8,13 +8,13 @@ use Rattle.task_listing.specs.declared.fault.ListKind.{ListKind}
 use Rattle.task_listing.specs.declared.fault.ListKind.TheVariants as fault
 use Rattle.task_listing.specs.declared.kind.Kind.{Kind}
 use Rattle.task_listing.specs.Lines.{Bytes, byte_limit, lines, whole_lines, behind_lines, if_any, words}
-use Rattle.task_listing.specs.Context.{Context, start, context, behind_line}
-use Rattle.task_listing.specs.Faults.{OffendsAt, OffendsFrom, Offends, a_long_text, a_line, a_short_text, too_many_words, too_many_instructions, rank, Precedes, IsFirst, IsFaultless, IsTold}
+use Rattle.task_listing.specs.Context.{start, context}
+use Rattle.task_listing.specs.Faults.{OffendsFrom, Offends, a_long_text, a_line, a_short_text, too_many_words, too_many_instructions, rank, Precedes, IsFirst, IsFaultless, IsTold}
 use Rattle.task_listing.specs.declared.fault.ListFault.{ListFault}
 use Rattle.task_listing.specs.declared.fault.ListFault.TheVariants as list_fault
 use Rattle.task_listing.specs.Laws.{FaultIsFirst, NoneIsFaultless}
 use Rattle.task_listing.specs.Reading.{Judges}
-use Rattle.task_listing.specs.Judging.{State, begun, judge, walk, walk_on, limited, judged, ended, closed, finished, verdict, Verdict}
+use Rattle.task_listing.specs.Judging.{State, begun, judge, walk, walk_on, limited, ended, closed, finished, verdict, Verdict}
 use Rattle.task_listing.proofs.Firsts.{FirstFrom, PlaceIs, judge_ranks, first_here, stopped_first, stopped_end, walked_context, walked_place, walked_only, from_split, from_right, from_ranks}
 
 line_first : (bs : Bytes) (m : ℕ) (k : ListKind) → length bs ≤ byte_limit → FirstFrom start 1 (lines bs) m k → ((context (whole_lines bs)).awaits ≢ [] → rank k ≡ 1) → IsFirst bs m k

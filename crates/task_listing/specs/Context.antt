@@ -1,8 +1,6 @@
 -- What is known behind lines: which lines are still awaited, and what those that came have named.
-use Rattle.std.specs.Prelude.{◌≡◌, ℕ, ◌+◌, ◌*◌, min, List, [], ◌∷◌, ◌++◌, map, fold, drop, length, replicate}
+use Rattle.std.specs.Prelude.{ℕ, ◌+◌, ◌*◌, min, List, [], ◌∷◌, ◌++◌, map, fold, drop, replicate}
 use Rattle.std.specs.Str.Parse.{digits_value}
-use Rattle.task_code.specs.declared.program.Task.{Task}
-use Rattle.task_code.specs.Program.{Program}
 use Rattle.task_code.specs.Rules.{most_words, most_instructions}
 use Rattle.task_listing.specs.Lines.{Bytes, words}
 use Rattle.task_listing.specs.declared.kind.Kind.{Kind}

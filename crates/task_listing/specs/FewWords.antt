@@ -1,5 +1,5 @@
 -- The words of a line, as they are taken.
-use Rattle.std.specs.Prelude.{ℕ, List, [], ◌∷◌, Bool, not, ◌==◌, Option, Some, None}
+use Rattle.std.specs.Prelude.{ℕ, List, [], ◌∷◌, Bool, not, ◌==◌}
 use Rattle.task_listing.specs.declared.words.Words.{Words}
 use Rattle.task_listing.specs.declared.words.Words.TheVariants as few
 use Rattle.task_listing.specs.Lines.{Bytes, words}

@@ -1,8 +1,7 @@
 -- A text, judged line by line: the answer, computed.
-use Rattle.std.specs.Prelude.{◌≡◌, ℕ, ◌+◌, ◌<◌, List, [], ◌∷◌, length, slice_get, slice_index, Bool, true, false, cond, not, ◌&&◌, ◌||◌, ◌==◌, nat_le, nat_lt, codes, Option, Some, None, Result, Ok, Err, ℤ, pos, neg_ℤ, ◌^◌}
-use Rattle.std.specs.Str.Parse.{digits_value}
+use Rattle.std.specs.Prelude.{ℕ, ◌+◌, List, [], ◌∷◌, length, slice_get, slice_index, Bool, true, false, cond, not, ◌&&◌, ◌||◌, ◌==◌, nat_le, nat_lt, codes, Option, Some, None, Result, Ok, Err}
 use Rattle.task_code.specs.declared.program.Instr.{Instr}
-use Rattle.task_code.specs.declared.program.Instr.TheVariants.{Push, Drop, Dup, Ld, St, Ldx, Stx, Ldm, Stm, Un, Bin, Cast, Jmp, Jz, Call, Ret, Take, Lock, Unlock, Out, Bclr, Bput, Badd, Bget, Bcnt}
+use Rattle.task_code.specs.declared.program.Instr.TheVariants.{Ld, St, Ldx, Stx, Ldm, Stm, Cast, Jmp, Jz, Call, Take, Lock, Unlock, Out, Bclr, Bput, Badd, Bget, Bcnt}
 use Rattle.task_code.specs.Rules.{most_words, most_instructions}
 use Rattle.tower_types.specs.Arithmetic.{is_number}
 use Rattle.task_listing.specs.declared.fault.ListKind.{ListKind}

@@ -1,11 +1,11 @@
 -- The listing of a program: its one spelling.
-use Rattle.std.specs.Prelude.{ℕ, List, [], ◌∷◌, ◌++◌, length, map, codes}
+use Rattle.std.specs.Prelude.{ℕ, List, [], ◌∷◌, ◌++◌, length, codes}
 use Rattle.task_code.specs.declared.program.Buffer.{Buffer}
 use Rattle.task_code.specs.declared.program.Task.{Task}
 use Rattle.task_code.specs.declared.program.Instr.{Instr}
 use Rattle.task_code.specs.Program.{Program}
 use Rattle.task_listing.specs.Lines.{Bytes, texts}
-use Rattle.task_listing.specs.Spelling.{Word, letters, with_numbers, words_of, written}
+use Rattle.task_listing.specs.Spelling.{Word, with_numbers, words_of, written}
 
 -- a line with the number of items, and the text of each
 abbrev pub counted : {A : Type 0} → Bytes → (A → Bytes) → List A → Bytes

@@ -1,6 +1,5 @@
 -- Words of a line, and numbers as they are spelled.
-use Rattle.std.specs.Prelude.{ℕ, List, [], ◌∷◌, Bool, true, false, not, ◌==◌, ◌&&◌, ◌||◌, nat_le, codes, bytes_eq, decimal, Option, Some, None}
-use Rattle.std.specs.Str.Parse.{digits_value}
+use Rattle.std.specs.Prelude.{ℕ, [], ◌∷◌, Bool, true, false, not, ◌==◌, ◌&&◌, ◌||◌, nat_le, codes, bytes_eq}
 use Rattle.task_listing.specs.Lines.{Bytes}
 
 -- space, tab, LF and CR

@@ -1,13 +1,11 @@
 -- How each line of a listing is spelled.
-use Rattle.std.specs.Prelude.{ℕ, ℤ, List, [], ◌∷◌, ◌++◌, length, map, codes, decimal}
+use Rattle.std.specs.Prelude.{ℕ, ℤ, List, [], ◌∷◌, ◌++◌, map, codes, decimal}
 use Rattle.std.specs.Fmt.{signed_decimal}
 use Rattle.tower_types.specs.declared.scalar.Scalar.{Scalar}
 use Rattle.tower_types.specs.declared.scalar.Scalar.TheVariants as scalars
 use Rattle.tower_types.specs.declared.scalar.BinOp.{BinOp}
 use Rattle.tower_types.specs.declared.scalar.UnOp.{UnOp}
 use Rattle.tower_syntax.specs.Words.{scalar_word, binary_word, unary_word}
-use Rattle.task_code.specs.declared.program.Buffer.{Buffer}
-use Rattle.task_code.specs.declared.program.Task.{Task}
 use Rattle.task_code.specs.declared.program.Instr.{Instr}
 use Rattle.task_code.specs.declared.program.Instr.TheVariants.{Push, Drop, Dup, Ld, St, Ldx, Stx, Ldm, Stm, Un, Bin, Cast, Jmp, Jz, Call, Ret, Take, Lock, Unlock, Out, Bclr, Bput, Badd, Bget, Bcnt}
 use Rattle.task_listing.specs.Lines.{Bytes, line}

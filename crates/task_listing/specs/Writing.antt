@@ -1,5 +1,5 @@
 -- The parts of a line, as they are written one after another.
-use Rattle.std.specs.Prelude.{ℕ, List, ◌∷◌}
+use Rattle.std.specs.Prelude.{List, ◌∷◌}
 use Rattle.task_listing.specs.Lines.{Bytes, texts}
 use Rattle.task_listing.specs.Spelling.{Word, text}
 

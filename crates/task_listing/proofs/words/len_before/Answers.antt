@@ -1,6 +1,5 @@
-use Rattle.std.proofs.Common.{sym}
 use Rattle.task_listing.specs.FewWords.{is_other}
-use Rattle.task_listing.proofs.Prefixes.{run_stops, run_goes, run_ends}
+use Rattle.task_listing.proofs.Prefixes.{run_ends}
 use Rattle.task_listing.proofs.words.len_before.Goals as goal
 
 pub returns-clause-len : goal.returns-clause-len

@@ -1,4 +1,4 @@
-use Rattle.std.proofs.Common.{◌≡◌, ◌<◌, ◌∷◌, ◌+◌, ℕ, take, ap, sym, ◌∙◌, arith}
+use Rattle.std.proofs.Common.{◌∷◌, ◌+◌, ℕ, take, ap, sym, ◌∙◌, arith}
 use Rattle.task_listing.specs.Lines.{whole_lines, behind_lines}
 use Rattle.task_listing.proofs.Prefixes.{first_line, same_behind, no_line, rest_is}
 use Rattle.task_listing.proofs.words.split_line.Goals as goal

@@ -1,4 +1,4 @@
-use Rattle.std.proofs.Common.{◌≡◌, ◌<◌, ◌∷◌, ◌+◌, ℕ, take, ap, sym, ◌∙◌, arith}
+use Rattle.std.proofs.Common.{◌∷◌, ◌+◌, ℕ, take, ap, sym, ◌∙◌, arith}
 use Rattle.task_listing.specs.Lines.{words}
 use Rattle.task_listing.proofs.Prefixes.{words_split, words_whole, rest_is}
 use Rattle.task_listing.proofs.words.split_word.Goals as goal

@@ -1,8 +1,5 @@
-use Rattle.std.proofs.Common.{rules, ◌≡◌, ◌++◌, ℕ, [], ◌∷◌, arith}
-use Rattle.task_listing.specs.Spelling.{natural}
-use Rattle.task_listing.specs.Listing.{number_text, buffer_text, instr_text, task_text}
-use Rattle.task_listing.specs.Writing.{after_blank}
-use Rattle.task_listing.proofs.Texts.{texts_next, texts_all, numbers_line}
+use Rattle.task_listing.specs.Listing.{instr_text}
+use Rattle.task_listing.proofs.Texts.{texts_next, texts_all}
 use Rattle.task_listing.proofs.writing.put_code.Goals as goal
 
 pub loop-instr-preserved : goal.loop-instr-preserved
