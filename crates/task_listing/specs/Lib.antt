@@ -1,0 +1,13 @@
+pub mod Lines
+pub mod Numbers
+pub mod Spelling
+pub mod Listing
+pub mod Context
+pub mod Faults
+pub mod Rows
+pub mod Writing
+pub mod FewWords
+pub mod Answers
+pub mod Judging
+pub mod Reading
+pub mod Laws
