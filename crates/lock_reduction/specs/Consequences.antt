@@ -1,14 +1,18 @@
 -- What a user asks of every run of a sound program.
-use Rattle.std.specs.Prelude.{◌≡◌, ◌≢◌, ℕ, ◌<◌, [], length, map, Some, slice_get}
+use Rattle.std.specs.Prelude.{◌≡◌, ◌≢◌, ℕ, ◌<◌, List, [], length, map, Some, slice_get}
 use Rattle.tower_types.specs.Value.{flat}
 use Rattle.tower_syntax.specs.Arch.{Arch, Events}
 use Rattle.tower_meaning.specs.System.{system_of}
-use Rattle.tower_meaning.specs.Atomic.{Atomic, replay}
+use Rattle.tower_meaning.specs.Atomic.{Atomic, Fit, replay}
 use Rattle.task_code.specs.Program.{Program}
 use Rattle.task_code.specs.Own.{held_monitor}
 use Rattle.task_code.specs.Machine.{queue}
 use Rattle.task_code.specs.Standing.{IsIdle, IsWaiting, IsReady, standing}
-use Rattle.task_code.specs.Run.{Run}
+use Rattle.task_code.specs.Run.{Run, Step, reached}
+
+-- this holds of each run over a record that fits
+abbrev pub InEachRun : Arch → Program → (Events → Run → Type 0) → Type 0
+InEachRun arch p What = (events : Events) (steps : List Step) (r : Run) → Fit arch events → reached p events steps ≡ Some r → What events r
 
 -- the marks replay, and what OUT wrote is what the replay gives, in its order
 abbrev pub GivesOutputs : Arch → Events → Run → Type 0

@@ -1,15 +1,13 @@
 //! Worked cases of the law, and programs that it refuses. The bodies are empty: the contracts are the laws.
 
-ghost use Rattle.std.specs.Prelude.{◌≡◌, List, Some};
-ghost use Rattle.tower_syntax.specs.Arch.{Arch, Events};
+ghost use Rattle.tower_syntax.specs.Arch.{Arch};
 ghost use Rattle.tower_syntax.specs.Examples.{clock};
-ghost use Rattle.tower_meaning.specs.Atomic.{Fit};
 ghost use Rattle.task_code.specs.Program.{Program};
-ghost use Rattle.task_code.specs.Run.{Run, Step, reached};
-ghost use Rattle.lock_reduction.specs.Consequences.{GivesOutputs, NoneWaitsForItself, NoDeadlock, RestsIdle};
+ghost use Rattle.lock_reduction.specs.Consequences.{InEachRun, GivesOutputs, NoneWaitsForItself, NoDeadlock, RestsIdle};
 ghost use Rattle.task_code.specs.WorkedListing.{counter};
 ghost use Rattle.lock_reduction.specs.Reduce.{Sound};
-ghost use Rattle.lock_reduction.specs.Wrong.{IsRefuted, SticksATask, MisfitsTheReplay, WritesOtherOutputs, LeavesOtherWords, HoldsOtherMessages, LocksAnotherMonitor, IdlesTooSoon, CostsTooMuch};
+ghost use Rattle.lock_reduction.specs.Wrong.{IsRefuted, SticksATask, MisfitsTheReplay, WritesOtherOutputs, LeavesOtherWords};
+ghost use Rattle.lock_reduction.specs.Wrong.{HoldsOtherMessages, LocksAnotherMonitor, IdlesTooSoon, CostsTooMuch};
 ghost use Rattle.lock_reduction.specs.Wrong.{never_locks, reads_before_lock, stores_after_unlock, adds_two, locks_twice, drops};
 ghost use Rattle.lock_reduction.specs.Wrong.{tell, delivers_before_unlock, delivers_in_reverse, emits_past_buffer, tells_twice, pair, locks_another, still, spins};
 
@@ -37,16 +35,17 @@ pub fn wrong_programs_are_refused()
 
 /// In each run of a sound program the outputs are those of the replay of its marks.
 pub fn outputs_are_the_replays()
-    ensures { (arch : Arch) (p : Program) → Sound arch p → (events : Events) (steps : List Step) (r : Run) → Fit arch events → reached p events steps ≡ Some r → GivesOutputs arch events r }
+    ensures { (arch : Arch) (p : Program) → Sound arch p → InEachRun arch p (GivesOutputs arch) }
 {}
 
-/// In each run of a sound program no task waits for a lock that it holds, and where one waits some task can step.
+/// In each run of a sound program no task waits for a lock that it holds, and where one waits it is not so that none
+/// can step.
 pub fn no_task_waits_for_itself()
-    ensures deadlock { (arch : Arch) (p : Program) → Sound arch p → (events : Events) (steps : List Step) (r : Run) → Fit arch events → reached p events steps ≡ Some r → NoDeadlock p events r }
-    ensures apart { (arch : Arch) (p : Program) → Sound arch p → (events : Events) (steps : List Step) (r : Run) → Fit arch events → reached p events steps ≡ Some r → NoneWaitsForItself p events r }
+    ensures deadlock { (arch : Arch) (p : Program) → Sound arch p → InEachRun arch p (NoDeadlock p) }
+    ensures apart { (arch : Arch) (p : Program) → Sound arch p → InEachRun arch p (NoneWaitsForItself p) }
 {}
 
 /// Where no task of a sound program can step, all are idle and no message waits.
 pub fn a_run_rests_idle()
-    ensures { (arch : Arch) (p : Program) → Sound arch p → (events : Events) (steps : List Step) (r : Run) → Fit arch events → reached p events steps ≡ Some r → RestsIdle p events r }
+    ensures { (arch : Arch) (p : Program) → Sound arch p → InEachRun arch p (RestsIdle p) }
 {}
