@@ -6,6 +6,8 @@ pub mod Machine
 pub mod Standing
 pub mod Run
 pub mod Policy
+pub mod Ceiling
+pub mod Cores
 pub mod Plan
 pub mod Leads
 pub mod Fits
