@@ -9,6 +9,7 @@ pub mod Policy
 pub mod Ceiling
 pub mod Cores
 pub mod Plan
+pub mod Tally
 pub mod Leads
 pub mod Fits
 pub mod WorkedListing
