@@ -12,7 +12,7 @@ use Rattle.event_record.specs.Lines.{Bytes, words, behind_word, say_nothing}
 use Rattle.event_record.specs.Tokens.{tokens}
 use Rattle.event_record.specs.Record.{entry_limit, signal_named}
 use Rattle.event_record.specs.Scanned.{makes_value, take_value, whole_value}
-use Rattle.event_record.specs.Judged.{Judged, makes, is_wrong, verdict}
+use Rattle.event_record.specs.Judged.{Judged, makes, is_wrong, with_line, added_or, verdict}
 
 -- what a line is by itself: so many ticks, a signal by its name with the text of a value, or no entry
 pub data Said : Type 0 where
@@ -59,10 +59,14 @@ abbrev pub judged_signal : Arch → Option ℕ → Bytes → Judged Entry Record
 judged_signal arch None text = is_wrong wrong.Name
 judged_signal arch (Some x) text = judged_value x (value_for arch (slice_get arch.sources x) text)
 
+-- the signal with this name, and the text of its value
+abbrev pub judged_brought : Arch → Bytes → Bytes → Judged Entry RecordKind
+judged_brought arch name text = judged_signal arch (signal_named arch name) text
+
 abbrev pub judged_said : Arch → Said → Judged Entry RecordKind
 judged_said arch nothing = makes []
 judged_said arch (ticks n) = makes (replicate n tick)
-judged_said arch (brings name text) = judged_signal arch (signal_named arch name) text
+judged_said arch (brings name text) = judged_brought arch name text
 judged_said arch no_form = is_wrong wrong.Line
 
 abbrev pub judge_entry : Arch → Bytes → Judged Entry RecordKind
@@ -70,6 +74,10 @@ judge_entry arch l = judged_said arch (said_of l)
 
 abbrev pub over_entries : ℕ → Option RecordKind
 over_entries n = cond (nat_lt entry_limit n) (Some wrong.Many) None
+
+-- the old entries with those of a line are the new ones, or this is how it is wrong
+abbrev pub Adds : List Entry → List Entry → Judged Entry RecordKind → Option RecordKind → Type 0
+Adds old new said kind = added_or kind new ≡ with_line over_entries old said
 
 abbrev pub record_verdict : Arch → Bytes → Result (List Entry) (ℕ × RecordKind)
 record_verdict arch text = verdict (judge_entry arch) over_entries wrong.Long text
