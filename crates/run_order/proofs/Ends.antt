@@ -81,10 +81,11 @@ module _ (arch : Arch) (names : HasNames arch) where
 
   lost_said : (n : ℕ) (ss : List Source) → AllOf (λ s. IsName s.name) ss → AllOf (λ s. Says arch (lost_line arch.version s n) []) ss
   lost_said n [] h = tt
-  lost_said n (s ∷ ss) h =
-      (says_if arch (has_depth arch.version s.kind) (line (codes "lost" ∷ s.name ∷ decimal n ∷ []))
-      (says_passed arch (codes "lost") (s.name ∷ decimal n ∷ []) refl refl (two_above s.name (decimal n) (name_above s.name h.0) (decimal_above n))),
-      lost_said n ss h.1)
+  lost_said n (s ∷ ss) h = (
+    says_if arch (has_depth arch.version s.kind) (line (codes "lost" ∷ s.name ∷ decimal n ∷ []))
+        (says_passed arch (codes "lost") (s.name ∷ decimal n ∷ []) refl refl (two_above s.name (decimal n) (name_above s.name h.0) (decimal_above n))),
+    lost_said n ss h.1,
+  )
 
   sources_named : (ss : List Source) → AllOf IsName (map (λ s. s.name) ss) → AllOf (λ s. IsName s.name) ss
   sources_named [] h = tt

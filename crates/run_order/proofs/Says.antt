@@ -20,8 +20,8 @@ says_none arch = record { before = λ rest more h. h }
 pub says_both : (arch : Arch) (a b : Bytes) (ms ns : List Mark) → Says arch a ms → Says arch b ns → Says arch (a ++ b) (ms ++ ns)
 says_both arch a b ms ns f g = record {
   before = λ rest more h.
-    subst (λ t. AllMake (order_format arch) (lines t) ((ms ++ ns) ++ more)) (sym (append_assoc a b rest))
-    (subst (λ ns. AllMake (order_format arch) (lines (a ++ (b ++ rest))) ns) (sym (append_assoc ms ns more)) (f.before (b ++ rest) (ns ++ more) (g.before rest more h)));
+      subst (λ t. AllMake (order_format arch) (lines t) ((ms ++ ns) ++ more)) (sym (append_assoc a b rest))
+      (subst (λ ns. AllMake (order_format arch) (lines (a ++ (b ++ rest))) ns) (sym (append_assoc ms ns more)) (f.before (b ++ rest) (ns ++ more) (g.before rest more h)));
 }
 
 -- two texts of which the second makes no mark
@@ -31,8 +31,8 @@ says_then arch a b ms f g = subst (Says arch (a ++ b)) (append-nil ms) (says_bot
 pub says_line : (arch : Arch) (ws : List Bytes) (ms : List Mark) → above 10 (spaced ws) ≡ true → MakesMarks arch (spaced ws) ms → Says arch (line ws) ms
 says_line arch ws ms h m = record {
   before = λ rest more g.
-    let e : lines (line ws ++ rest) ≡ spaced ws ∷ lines rest = ap lines (append_assoc (spaced ws) (10 ∷ []) rest) ∙ line_ended (spaced ws) rest h in
-    subst (λ ls. AllMake (order_format arch) ls (ms ++ more)) (sym e) (a_line m g);
+      let e : lines (line ws ++ rest) ≡ spaced ws ∷ lines rest = ap lines (append_assoc (spaced ws) (10 ∷ []) rest) ∙ line_ended (spaced ws) rest h in
+      subst (λ ls. AllMake (order_format arch) ls (ms ++ more)) (sym e) (a_line m g);
 }
 
 -- a line that begins with one of the words that are passed over
@@ -53,7 +53,7 @@ pub says_spells : (arch : Arch) (t : Bytes) (ms : List Mark) → Says arch t ms 
 says_spells arch t ms h short = record {
   short = short;
   makes =
-    subst (λ ms. AllMake (order_format arch) (lines t) ms) (append-nil ms)
-    (subst (λ t. AllMake (order_format arch) (lines t) (ms ++ [])) (append-nil t) (h.before [] [] no_lines));
+      subst (λ ms. AllMake (order_format arch) (lines t) ms) (append-nil ms)
+      (subst (λ t. AllMake (order_format arch) (lines t) (ms ++ [])) (append-nil t) (h.before [] [] no_lines));
   few = λ k many. many;
 }
