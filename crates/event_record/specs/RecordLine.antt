@@ -1,8 +1,10 @@
 -- The line of an entry, judged.
-use Rattle.std.specs.Prelude.{◌≡◌, ℕ, List, [], ◌∷◌, Bool, true, false, cond, nat_lt, codes, bytes_eq, replicate, Option, Some, None, Result, Ok, Err, option_map, slice_get}
+use Rattle.std.specs.Prelude.{◌≡◌, ℕ, List, [], ◌∷◌, Bool, true, false, cond, nat_lt, codes, bytes_eq, replicate, Option, Some, None, Result, Ok, Err, option_map, slice_get, map}
 use Rattle.tower_types.specs.Ty.{shape_of}
 use Rattle.tower_types.specs.Value.{Value}
 use Rattle.tower_syntax.specs.Arch.{Arch, Source, Entry, tick, signal}
+use Rattle.tower_syntax.specs.declared.event.Entry.{Entry as EntryValue}
+use Rattle.tower_syntax.specs.View.{entry_of}
 use Rattle.tower_reader.specs.Words.{number_in}
 use Rattle.event_record.specs.declared.record.RecordKind.{RecordKind}
 use Rattle.event_record.specs.declared.record.RecordKind.TheVariants as wrong
@@ -59,14 +61,10 @@ abbrev pub judged_signal : Arch → Option ℕ → Bytes → Judged Entry Record
 judged_signal arch None text = is_wrong wrong.Name
 judged_signal arch (Some x) text = judged_value x (value_for arch (slice_get arch.sources x) text)
 
--- the signal with this name, and the text of its value
-abbrev pub judged_brought : Arch → Bytes → Bytes → Judged Entry RecordKind
-judged_brought arch name text = judged_signal arch (signal_named arch name) text
-
 abbrev pub judged_said : Arch → Said → Judged Entry RecordKind
 judged_said arch nothing = makes []
 judged_said arch (ticks n) = makes (replicate n tick)
-judged_said arch (brings name text) = judged_brought arch name text
+judged_said arch (brings name text) = judged_signal arch (signal_named arch name) text
 judged_said arch no_form = is_wrong wrong.Line
 
 abbrev pub judge_entry : Arch → Bytes → Judged Entry RecordKind
@@ -75,9 +73,13 @@ judge_entry arch l = judged_said arch (said_of l)
 abbrev pub over_entries : ℕ → Option RecordKind
 over_entries n = cond (nat_lt entry_limit n) (Some wrong.Many) None
 
--- the old entries with those of a line are the new ones, or this is how it is wrong
-abbrev pub Adds : List Entry → List Entry → Judged Entry RecordKind → Option RecordKind → Type 0
-Adds old new said kind = added_or kind new ≡ with_line over_entries old said
+-- these entries, or the kind of a fault
+abbrev pub done_or : Option RecordKind → List EntryValue → Result (List Entry) RecordKind
+done_or kind entries = added_or kind (map entry_of entries)
+
+-- entries with those of a line, unless they are too many
+abbrev pub with_said : List EntryValue → Judged Entry RecordKind → Result (List Entry) RecordKind
+with_said entries said = with_line over_entries (map entry_of entries) said
 
 abbrev pub record_verdict : Arch → Bytes → Result (List Entry) (ℕ × RecordKind)
 record_verdict arch text = verdict (judge_entry arch) over_entries wrong.Long text

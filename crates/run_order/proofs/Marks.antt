@@ -12,11 +12,9 @@ use Rattle.arch_types.proofs.Lists.{AllOf}
 use Rattle.tower_report.specs.Bytes.{spaced, line}
 use Rattle.tower_report.specs.MarkText.{IsMarkOf, mark_words, mark_line, output_name, output_shape, out_line}
 use Rattle.tower_report.specs.ValueText.{words_text}
-use Rattle.event_record.specs.declared.order.Act.{Act}
-use Rattle.event_record.specs.declared.order.Act.TheVariants.{Starts, Runs, Puts}
 use Rattle.event_record.specs.Lines.{Bytes, words, begins_with}
 use Rattle.event_record.specs.Numbers.{is_digit, are_digits, IsWithin}
-use Rattle.event_record.specs.Order.{instruction_limit, is_among, begins_other_line, is_passed_over, state_lines, replay_lines, rule_lines, end_lines, Form, arrives, marked, SpellsMark, a_arrives, s_starts, r_runs, o_puts, HasForm, numbered, mark_of, MakesMarks, an_arrival, one_mark, source_named}
+use Rattle.event_record.specs.Order.{instruction_limit, is_among, begins_other_line, is_passed_over, state_lines, replay_lines, rule_lines, end_lines, Form, arrives, SpellsMark, a_arrives, s_starts, r_runs, o_puts, HasForm, numbered, MakesMarks, an_arrival, one_mark, source_named}
 use Rattle.declared_names.specs.Laws.{source_names, HasNames}
 use Rattle.run_order.proofs.Above.{above, is_word, are_above, both, and_true, or_false, spaced_above, word_above}
 use Rattle.run_order.proofs.Digits.{is_figure, decimal_is, decimal_word}
@@ -93,17 +91,19 @@ module _ (arch : Arch) (n : ℕ) (few : n ≤ instruction_limit) where
         name_is_word (source_name arch x) (names.sources x [] (omega (arith, within, short))).0
 
     -- the word of an act, and the name
-    act_said : (a : Act) (w : Bytes) → is_word w ≡ true → SpellsMark (w ∷ source_name arch x ∷ []) (marked a (source_name arch x)) → Says arch (line (decimal n ∷ w ∷ source_name arch x ∷ [])) (mark_of a x ∷ [])
-    act_said a w h s =
+    act_said : (w : Bytes) (f : Form) (m : Mark) → is_word w ≡ true → SpellsMark (w ∷ source_name arch x ∷ []) f
+        → ((l : Bytes) → is_passed_over (words l) ≡ false → HasForm (words l) f → source_named arch (source_name arch x) ≡ Some x → MakesMarks arch l (m ∷ []))
+        → Says arch (line (decimal n ∷ w ∷ source_name arch x ∷ [])) (m ∷ [])
+    act_said w f m h s makes =
         let ws = w ∷ source_name arch x ∷ [] in
         let k : are_words ws ≡ true = and_true (is_word w) (are_words (source_name arch x ∷ [])) h (and_true (is_word (source_name arch x)) true name_word refl) in
-        said_line ws (mark_of a x ∷ []) k (one_mark (stays ws k) (has_form ws (marked a (source_name arch x)) k s) (source_found arch x within names.apart))
+        said_line ws (m ∷ []) k (makes (spaced (decimal n ∷ ws)) (stays ws k) (has_form ws f k s) (source_found arch x within names.apart))
 
   pub mark_said : HasNames arch → (m : Mark) → IsMarkOf arch m → Says arch (mark_line arch n m) (m ∷ [])
   mark_said names mark.Arrive h = arrival_said
-  mark_said names (mark.Start x) h = act_said names x h Starts (codes "s") refl s_starts
-  mark_said names (mark.Run x) h = act_said names x h Runs (codes "r") refl r_runs
-  mark_said names (mark.Out x) h = act_said names x h Puts (codes "o") refl o_puts
+  mark_said names (mark.Start x) h = act_said names x h (codes "s") _ (mark.Start x) refl s_starts (λ l e f g. one_mark e f g)
+  mark_said names (mark.Run x) h = act_said names x h (codes "r") _ (mark.Run x) refl r_runs (λ l e f g. one_mark e f g)
+  mark_said names (mark.Out x) h = act_said names x h (codes "o") _ (mark.Out x) refl o_puts (λ l e f g. one_mark e f g)
 
   pub marks_said : HasNames arch → (ms : List Mark) → AllOf (IsMarkOf arch) ms → Says arch (flat_map (mark_line arch n) ms) ms
   marks_said names [] h = says_none arch
