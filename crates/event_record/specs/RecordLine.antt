@@ -1,8 +1,10 @@
 -- The line of an entry, judged.
-use Rattle.std.specs.Prelude.{◌≡◌, ℕ, List, [], ◌∷◌, Bool, true, false, cond, nat_lt, codes, bytes_eq, replicate, Option, Some, None, Result, Ok, Err, option_map, slice_get}
+use Rattle.std.specs.Prelude.{◌≡◌, ℕ, List, [], ◌∷◌, Bool, true, false, cond, nat_lt, codes, bytes_eq, replicate, Option, Some, None, Result, Ok, Err, option_map, slice_get, map}
 use Rattle.tower_types.specs.Ty.{shape_of}
 use Rattle.tower_types.specs.Value.{Value}
 use Rattle.tower_syntax.specs.Arch.{Arch, Source, Entry, tick, signal}
+use Rattle.tower_syntax.specs.declared.event.Entry.{Entry as EntryValue}
+use Rattle.tower_syntax.specs.View.{entry_of}
 use Rattle.tower_reader.specs.Words.{number_in}
 use Rattle.event_record.specs.declared.record.RecordKind.{RecordKind}
 use Rattle.event_record.specs.declared.record.RecordKind.TheVariants as wrong
@@ -12,7 +14,7 @@ use Rattle.event_record.specs.Lines.{Bytes, words, behind_word, say_nothing}
 use Rattle.event_record.specs.Tokens.{tokens}
 use Rattle.event_record.specs.Record.{entry_limit, signal_named}
 use Rattle.event_record.specs.Scanned.{makes_value, take_value, whole_value}
-use Rattle.event_record.specs.Judged.{Judged, makes, is_wrong, verdict}
+use Rattle.event_record.specs.Judged.{Judged, makes, is_wrong, with_line, added_or, verdict}
 
 -- what a line is by itself: so many ticks, a signal by its name with the text of a value, or no entry
 pub data Said : Type 0 where
@@ -70,6 +72,14 @@ judge_entry arch l = judged_said arch (said_of l)
 
 abbrev pub over_entries : ℕ → Option RecordKind
 over_entries n = cond (nat_lt entry_limit n) (Some wrong.Many) None
+
+-- these entries, or the kind of a fault
+abbrev pub done_or : Option RecordKind → List EntryValue → Result (List Entry) RecordKind
+done_or kind entries = added_or kind (map entry_of entries)
+
+-- entries with those of a line, unless they are too many
+abbrev pub with_said : List EntryValue → Judged Entry RecordKind → Result (List Entry) RecordKind
+with_said entries said = with_line over_entries (map entry_of entries) said
 
 abbrev pub record_verdict : Arch → Bytes → Result (List Entry) (ℕ × RecordKind)
 record_verdict arch text = verdict (judge_entry arch) over_entries wrong.Long text

@@ -4,7 +4,8 @@ ghost use Rattle.tower_syntax.specs.View.{source_of};
 ghost use Rattle.event_record.specs.Lines.{lines, words};
 ghost use Rattle.event_record.specs.FewWords.{listed};
 ghost use Rattle.event_record.specs.Judged.{judged_of, with_line, added_or, walk};
-ghost use Rattle.event_record.specs.Order.{SpellsOrder, IsOrderFault, NamesSource, is_among, state_lines, replay_lines, rule_lines, end_lines, begins_other_line, source_at, mark_of};
+ghost use Rattle.event_record.specs.Order.{SpellsOrder, IsOrderFault, NamesSource, source_at, mark_of};
+ghost use Rattle.event_record.specs.Order.{is_among, state_lines, replay_lines, rule_lines, end_lines, begins_other_line};
 ghost use Rattle.event_record.specs.OrderLine.{act_of, marked_by, bare_form, form_of, is_count, judge_mark, over_marks, IsTold};
 ghost use Rattle.event_record.specs.FormSeen.{IsForm};
 

@@ -5,9 +5,9 @@ ghost use Rattle.tower_syntax.specs.View.{source_of, entry_of, events_of};
 ghost use Rattle.tower_meaning.specs.Atomic.{Fit};
 ghost use Rattle.event_record.specs.Lines.{lines, words, behind_word};
 ghost use Rattle.event_record.specs.FewWords.{listed};
-ghost use Rattle.event_record.specs.Judged.{with_line, added_or, walk, makes};
+ghost use Rattle.event_record.specs.Judged.{walk, makes};
 ghost use Rattle.event_record.specs.Record.{SpellsRecord, IsRecordFault, is_signal, names_signal, signal_at};
-ghost use Rattle.event_record.specs.RecordLine.{tick_form, sig_form, said_of, judged_signal, judge_entry, over_entries, IsTold};
+ghost use Rattle.event_record.specs.RecordLine.{tick_form, sig_form, said_of, judged_signal, judge_entry, over_entries, done_or, with_said, IsTold};
 ghost use Rattle.event_record.specs.SaidSeen.{said_seen};
 
 use crate::line::{BYTE_LIMIT, Few, few_words, is_comment, split_line, split_word};
@@ -144,7 +144,7 @@ fn signal_named(sources: &[Source], name: &[u8]) -> Option<u32>
 fn add_ticks(entries: &mut Items<Entry>, n: u32) -> Result<Option<RecordKind>, NoMemory>
     requires { length entries.old ≤ ENTRY_LIMIT }
     ensures few { OnOk result (length entries.new ≤ ENTRY_LIMIT) }
-    ensures added { IfOk result (λ kind. added_or kind (map entry_of entries.new) ≡ with_line over_entries (map entry_of entries.old) (makes (replicate n tick))) }
+    ensures added { IfOk result (λ k. done_or k entries.new ≡ with_said entries.old (makes (replicate n tick))) }
 {
     if entries.len().saturating_add(n as usize) > ENTRY_LIMIT {
         return Ok(Some(RecordKind::Many));
@@ -159,7 +159,7 @@ fn add_ticks(entries: &mut Items<Entry>, n: u32) -> Result<Option<RecordKind>, N
 fn add_entry(entries: &mut Items<Entry>, entry: Entry) -> Result<Option<RecordKind>, NoMemory>
     requires { length entries.old ≤ ENTRY_LIMIT }
     ensures few { OnOk result (length entries.new ≤ ENTRY_LIMIT) }
-    ensures added { IfOk result (λ kind. added_or kind (map entry_of entries.new) ≡ with_line over_entries (map entry_of entries.old) (makes (entry_of entry ∷ []))) }
+    ensures added { IfOk result (λ k. done_or k entries.new ≡ with_said entries.old (makes (entry_of entry ∷ []))) }
 {
     if entries.len() >= ENTRY_LIMIT {
         return Ok(Some(RecordKind::Many));
@@ -178,7 +178,7 @@ fn add_signal(
 ) -> Result<Option<RecordKind>, NoMemory>
     requires { length entries.old ≤ ENTRY_LIMIT }
     ensures few { OnOk result (length entries.new ≤ ENTRY_LIMIT) }
-    ensures added { IfOk result (λ kind. added_or kind (map entry_of entries.new) ≡ with_line over_entries (map entry_of entries.old) (judged_signal arch.now (signal_at arch.now.sources name.now) text.now)) }
+    ensures added { IfOk result (λ k. done_or k entries.new ≡ with_said entries.old (judged_signal arch.now (signal_at arch.now.sources name.now) text.now)) }
 {
     let Some(x) = signal_named(arch.sources(), name) else {
         return Ok(Some(RecordKind::Name));
@@ -199,7 +199,7 @@ fn add_line(
 ) -> Result<Option<RecordKind>, NoMemory>
     requires { length entries.old ≤ ENTRY_LIMIT }
     ensures few { OnOk result (length entries.new ≤ ENTRY_LIMIT) }
-    ensures added { IfOk result (λ kind. added_or kind (map entry_of entries.new) ≡ with_line over_entries (map entry_of entries.old) (judge_entry arch.now line.now)) }
+    ensures added { IfOk result (λ k. done_or k entries.new ≡ with_said entries.old (judge_entry arch.now line.now)) }
 {
     match say(line) {
         Said::Nothing => Ok(None),

@@ -1,0 +1,44 @@
+"""A system with 64 sources, and records, choices and orders of 16,777,216 bytes at most, which are hard for a reader."""
+
+LIMIT = 16_777_216
+
+NAMES = ["a" * 62 + f"{n:02}" for n in range(61)]
+LAST = "a" * 62 + "99"
+
+SYSTEM = "\n".join(
+    ["(tower wide", "(signal first i32 1)", "(signal big (array 4096 u8) 1)"]
+    + [f"(signal {name} i32 1)" for name in NAMES]
+    + [f"(signal {LAST} i32 1))"]
+)
+
+
+def lines(line):
+    """As many of the line as fit."""
+    return line * (LIMIT // len(line))
+
+
+TEXTS = {
+    "signals.record": lines("sig first 1234567\n"),
+    "signals of the last name.record": lines(f"sig {LAST} 1\n"),
+    "values of 4096 numbers.record": lines("sig big (" + "1 " * 4095 + "1)\n"),
+    "ticks.record": lines("tick 1          \n"),
+    "brackets.record": lines("sig big " + "(" * 31 + "1" + ")" * 31 + "\n"),
+    "one bracketed line.record": "sig big " + "(" * (LIMIT - 8),
+    "one line.record": "a" * LIMIT,
+    "blanks.record": " " * LIMIT,
+    "empty lines.record": "\n" * LIMIT,
+    "comments.record": lines(";\n"),
+    "choices.choices": lines("see 65535 1000000000\n"),
+    "one line.choices": "a" * LIMIT,
+    "blanks.choices": " " * LIMIT,
+    "empty lines.choices": "\n" * LIMIT,
+    "comments.choices": lines(";\n"),
+    "arrivals.order": lines("a\n"),
+    "marks.order": lines("s first\n"),
+    "marks of the last name.order": lines(f"1000000000 s {LAST}\n"),
+    "lines passed over.order": lines("misfit 1\n"),
+    "one line.order": "a" * LIMIT,
+    "blanks.order": " " * LIMIT,
+    "empty lines.order": "\n" * LIMIT,
+    "comments.order": lines(";\n"),
+}

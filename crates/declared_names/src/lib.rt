@@ -1,0 +1,4 @@
+//! The names in an accepted file.
+#![tactic(auto)]
+
+pub mod laws;

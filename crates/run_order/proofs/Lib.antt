@@ -1,0 +1,10 @@
+pub mod Above
+pub mod Digits
+pub mod Words
+pub mod Found
+pub mod Values
+pub mod Says
+pub mod Marks
+pub mod Ends
+pub mod Steps
+pub mod Whole
