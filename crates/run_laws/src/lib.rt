@@ -1,0 +1,10 @@
+//! Laws of whole runs. The bodies are empty: the contracts are the laws.
+#![tactic(auto)]
+
+ghost use Rattle.run_laws.specs.Enough.{EnoughNeverStops};
+
+/// With as many instructions as all messages cost, no run of a sound program is stopped: each initialisation has one
+/// message, and the record brings the others.
+pub fn enough_never_stops()
+    ensures { EnoughNeverStops }
+{}
