@@ -89,8 +89,8 @@ module _ (cost : ℕ → ℕ) (p : Program) where
   other_same r r' y o =
       let q : cost y * length (queue r'.machine y) ≡ cost y * length (queue r.machine y) = ap (λ q. cost y * length q) o.queues in
       let w : owed (next_does p r'.machine y) (cost y) (slice_index r'.since y) ≡ owed (next_does p r.machine y) (cost y) (slice_index r.since y) =
-          ap (λ t. owed (task_does p (slice_get p.tasks y) t) (cost y) (slice_index r'.since y)) o.tasks
-          ∙ ap (owed (next_does p r.machine y) (cost y)) o.since in
+      ap (λ t. owed (task_does p (slice_get p.tasks y) t) (cost y) (slice_index r'.since y)) o.tasks
+      ∙ ap (owed (next_does p r.machine y) (cost y)) o.since in
       omega (arith, q, w)
 
   -- a ready task at TAKE has a message
@@ -159,10 +159,17 @@ module _ (cost : ℕ → ℕ) (p : Program) where
       → credits (fold (bring depths) m bs) since ≤ credits m since + sum_by cost (map (λ b. b.0) bs)
   bring_adds depths [] m since = omega arith
   bring_adds depths (b ∷ bs) m since =
-      omega (arith, one_adds (is_full (slice_index_or depths b.0 None) (length (queue m b.0))) m since b.0 b.1,
-      bring_adds depths bs (bring depths m b) since, sum_by-cons cost b.0 (map (λ b. b.0) bs))
+      omega (
+        arith,
+        one_adds (is_full (slice_index_or depths b.0 None) (length (queue m b.0))) m since b.0 b.1,
+        bring_adds depths bs (bring depths m b) since,
+        sum_by-cons cost b.0 (map (λ b. b.0) bs),
+      )
 
-  sources_of : (bs : List (ℕ × Value)) → map (λ b. b.0) (map (λ b. (b.0, flat b.1)) bs) ≡ map (λ b. b.0) bs
+  abbrev as_words : List (ℕ × Value) → List (ℕ × List ℤ)
+  as_words bs = map (λ b. (b.0, flat b.1)) bs
+
+  sources_of : (bs : List (ℕ × Value)) → map (λ b. b.0) (as_words bs) ≡ map (λ b. b.0) bs
   sources_of [] = refl
   sources_of (b ∷ bs) = ap (λ xs. b.0 ∷ xs) (sources_of bs)
 
@@ -172,7 +179,7 @@ module _ (cost : ℕ → ℕ) (p : Program) where
   entry_adds events m since e =
       let bs = brought events.kinds (ticks (take (suc m.place) events.entries)) e in
       subst (λ xs. credits (received events m e) since ≤ credits m since + sum_by cost xs) (sources_of bs)
-      (bring_adds events.depths (map (λ b. (b.0, flat b.1)) bs) (record m { place = suc m.place }) since)
+      (bring_adds events.depths (as_words bs) (record m { place = suc m.place }) since)
 
   -- ---- the start
 
@@ -189,7 +196,7 @@ module _ (cost : ℕ → ℕ) (p : Program) where
       let g : ℕ → ℕ = λ y. cost (x + 1 + y) * length (slice_index_or (map first_queue ks) y []) in
       let here : f 0 ≡ cost x * length (first_queue k) = let e : x + 0 ≡ x = omega arith in ap (λ z. cost z * length (first_queue k)) e in
       let same : sum_to n (λ y. f (suc y)) ≡ sum_to n g =
-          sum_same n (λ y. f (suc y)) g (λ y l. let e : x + suc y ≡ x + 1 + y = omega arith in ap (λ z. cost z * length (slice_index_or (map first_queue ks) y [])) e) in
+      sum_same n (λ y. f (suc y)) g (λ y l. let e : x + suc y ≡ x + 1 + y = omega arith in ap (λ z. cost z * length (slice_index_or (map first_queue ks) y [])) e) in
       omega (arith, sum_first n f, here, same, first_messages ks (x + 1) n, first_adds k x (inits_from (x + 1) ks))
 
   -- the first instruction of each task is TAKE
@@ -204,20 +211,23 @@ module _ (cost : ℕ → ℕ) (p : Program) where
       let k = get_within p.tasks x l in
       let own = get_map first_own p.tasks x k.0 k.1 in
       let none : owed (next_does p (first_machine p events) x) (cost x) n ≡ 0 =
-          ap (λ t. owed (task_does p t (slice_get (map first_own p.tasks) x)) (cost x) n) k.1
-          ∙ ap (λ o. owed (task_does p (Some k.0) o) (cost x) n) own
-          ∙ takes_first k.0 (all_at BeginsWithTake p.tasks x k.0 all k.1) (cost x) n in
+      ap (λ t. owed (task_does p t (slice_get (map first_own p.tasks) x)) (cost x) n) k.1
+      ∙ ap (λ o. owed (task_does p (Some k.0) o) (cost x) n) own
+      ∙ takes_first k.0 (all_at BeginsWithTake p.tasks x k.0 all k.1) (cost x) n in
       let same : 0 + x ≡ x = omega arith in
       let product : cost (0 + x) * length (slice_index_or (map first_queue events.kinds) x []) ≡ cost x * length (slice_index_or (map first_queue events.kinds) x []) =
-          ap (λ z. cost z * length (slice_index_or (map first_queue events.kinds) x [])) same in
+      ap (λ z. cost z * length (slice_index_or (map first_queue events.kinds) x [])) same in
       omega (arith, none, product)
 
   -- at the start there are the messages of the init sources
   pub first_credits : (events : Events) → All BeginsWithTake p.tasks → credits (first_machine p events) (map (λ t. 0) p.tasks) ≤ sum_by cost (inits_from 0 events.kinds)
   first_credits events all =
       let n = length p.tasks in
-      omega (arith, first_messages events.kinds 0 n,
-      sum_same n (credit (first_machine p events) (map (λ t. 0) p.tasks)) (λ y. cost (0 + y) * length (slice_index_or (map first_queue events.kinds) y [])) (first_credit events all))
+      omega (
+        arith,
+        first_messages events.kinds 0 n,
+        sum_same n (credit (first_machine p events) (map (λ t. 0) p.tasks)) (λ y. cost (0 + y) * length (slice_index_or (map first_queue events.kinds) y [])) (first_credit events all),
+      )
 
   -- ---- what an entry leaves
 

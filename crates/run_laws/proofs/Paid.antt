@@ -63,8 +63,8 @@ number_is (suc n) x y ks h e = number_is n x y (n ∷ ks) more e
     more zero z k = let s : n ≡ z = same_Some n z k in omega (arith, s)
     more (suc j) z k = let s = h j z k in omega (arith, s)
 
-none_there : (j z : ℕ) → slice_get [] j ≡ Some z → z ≡ 0 + j
-none_there j z e = cc
+none_there : (n j z : ℕ) → slice_get [] j ≡ Some z → z ≡ n + j
+none_there n j z e = cc
 
 is_ready_only : (k : Standing) → is_ready k ≡ true → k ≡ IsReady
 is_ready_only IsReady e = refl
@@ -76,7 +76,7 @@ pub ready_stands : (p : Program) (events : Events) (m : Machine) (n x : ℕ) →
 ready_stands p events m n x e =
     let k = get_unmap is_ready (map (standing p events m) (numbers_before n [])) x true e in
     let y = get_unmap (standing p events m) (numbers_before n []) x k.0 k.1 in
-    ap (standing p events m) (sym (number_is n x y.0 [] none_there y.1)) ∙ y.2 ∙ is_ready_only k.0 k.2
+    ap (standing p events m) (sym (number_is n x y.0 [] (none_there n) y.1)) ∙ y.2 ∙ is_ready_only k.0 k.2
 
 ready_inside : (p : Program) (events : Events) (m : Machine) (x : ℕ) (t : Option Task) → slice_get p.tasks x ≡ t → standing p events m x ≡ IsReady → x < length p.tasks
 ready_inside p events m x None is e =
@@ -113,9 +113,9 @@ counted_length since x (Locks k f) = length-set since x _
 counted_length since x (Unlocks h own) = length-set since x _
 counted_length since x (Writes o ws own) = length-set since x _
 
-either : {P : Planning → Type 0} (b : Bool) (s t : Planning) → P s → P t → P (elim b [ true ↦ s | false ↦ t ])
-either true s t h k = h
-either false s t h k = k
+either : (P : Planning → Type 0) (b : Bool) (s t : Planning) → P s → P t → P (elim b [ true ↦ s | false ↦ t ])
+either P true s t h k = h
+either P false s t h k = k
 
 module _ (policy : Policy) (arch : Arch) (p : Program) (events : Events) (limit : ℕ) (names : NamesReady policy) (sound : Sound arch p) (fit : Fit arch events) where
   -- what is still to be paid
@@ -142,10 +142,10 @@ module _ (policy : Policy) (arch : Arch) (p : Program) (events : Events) (limit 
       let is : step p events s.run (Turn x) ≡ Some r = ap (λ st. if_ready st r) e in
       let there = ready_inside p events s.run.machine x (slice_get p.tasks x) refl e in
       let reaches : reached p events (map step_of (s.steps ++ goes k x ∷ [])) ≡ Some r =
-          ap (reached p events) (map_push s.steps (goes k x)) ∙ goes_on p events (map step_of s.steps) (Some (first_run p events)) s.run r (Turn x) h.reaches is in
+      ap (reached p events) (map_push s.steps (goes k x)) ∙ goes_on p events (map step_of s.steps) (Some (first_run p events)) s.run r (Turn x) h.reaches is in
       let few = sound.counts events (map step_of (s.steps ++ goes k x ∷ [])) r fit reaches x there in
       let place : sum_by (cost arch) (to_come events r.machine.place) ≡ sum_by (cost arch) (to_come events s.run.machine.place) =
-          ap (λ i. sum_by (cost arch) (to_come events i)) (turned_place s.run x d) in
+      ap (λ i. sum_by (cost arch) (to_come events i)) (turned_place s.run x d) in
       record {
         steps = is;
         sized = counted_length s.run.since x d ∙ h.sized;
@@ -176,10 +176,10 @@ module _ (policy : Policy) (arch : Arch) (p : Program) (events : Events) (limit 
   entry_paid s (Some e) is h =
       let r' = received events s.run.machine e in
       let more : sum_by (cost arch) (to_come events s.run.machine.place) ≡ sum_by (cost arch) (map (λ b. b.0) (brought events.kinds (ticks (take (suc s.run.machine.place) events.entries)) e)) + sum_by (cost arch) (to_come events (suc s.run.machine.place)) =
-          ap (sum_by (cost arch)) (come_more events s.run.machine.place e is)
-          ∙ sum_by-append (cost arch) (map (λ b. b.0) (brought events.kinds (ticks (take (suc s.run.machine.place) events.entries)) e)) (to_come events (suc s.run.machine.place)) in
+      ap (sum_by (cost arch)) (come_more events s.run.machine.place e is)
+      ∙ sum_by-append (cost arch) (map (λ b. b.0) (brought events.kinds (ticks (take (suc s.run.machine.place) events.entries)) e)) (to_come events (suc s.run.machine.place)) in
       let place : sum_by (cost arch) (to_come events r'.place) ≡ sum_by (cost arch) (to_come events (suc s.run.machine.place)) =
-          ap (λ i. sum_by (cost arch) (to_come events i)) (received_place (cost arch) p events s.run.machine e) in
+      ap (λ i. sum_by (cost arch) (to_come events i)) (received_place (cost arch) p events s.run.machine e) in
       record {
         reaches = ap (reached p events) (map_push s.steps comes) ∙ goes_on p events (map step_of s.steps) (Some (first_run p events)) s.run _ Event h.reaches (ap (came events s.run) is);
         sized = h.sized;
@@ -214,15 +214,18 @@ module _ (policy : Policy) (arch : Arch) (p : Program) (events : Events) (limit 
   still_ready false true false e = cc
   still_ready false false false e = cc
 
+  look_rest : (n k x : ℕ) (s t : Planning) (b : Bool) → is_seen policy p events limit x s t ≡ b → Paid t → (standing p events t.run.machine x ≡ IsReady → Paid (look policy p events limit n k x t))
+      → Paid (elim b [ true ↦ t | false ↦ look policy p events limit n k x t ])
+  look_rest n k x s t true e h more = h
+  look_rest n k x s t false e h more =
+      more (is_ready_only (standing p events t.run.machine x) (still_ready t.stopped (is_visible (next_does p s.run.machine x)) (is_ready (standing p events t.run.machine x)) e))
+
   look_paid : (n k x : ℕ) (s : Planning) → Paid s → standing p events s.run.machine x ≡ IsReady → Paid (look policy p events limit n k x s)
-  look_rest : (n k x : ℕ) (s t : Planning) (b : Bool) → is_seen policy p events limit x s t ≡ b → Paid t → Paid (elim b [ true ↦ t | false ↦ look policy p events limit n k x t ])
   look_paid zero k x s h e = h
   look_paid (suc n) k x s h e =
       let t = instruct policy p events limit k x s s.left in
-      look_rest n k x s t (is_seen policy p events limit x s t) refl (instruct_paid k x s h e)
-  look_rest n k x s t true e h = h
-  look_rest n k x s t false e h =
-      look_paid n k x t h (is_ready_only (standing p events t.run.machine x) (still_ready t.stopped (is_visible (next_does p s.run.machine x)) (is_ready (standing p events t.run.machine x)) e))
+      let now = instruct_paid k x s h e in
+      look_rest n k x s t (is_seen policy p events limit x s t) refl now (λ ready. look_paid n k x t now ready)
 
   see_with_paid : (k : ℕ) (s : Planning) (o : Option ℕ) → picked policy p events limit s.run.machine k ≡ o → Paid s → Paid (see_with policy p events limit k s o)
   see_with_paid k s None e h = h
@@ -234,7 +237,7 @@ module _ (policy : Policy) (arch : Arch) (p : Program) (events : Events) (limit 
   idle_paid : (n : ℕ) (s : Planning) → Paid s → Paid (idle policy p events limit n s)
   idle_paid zero s h = h
   idle_paid (suc n) s h =
-      either {Paid} (s.stopped || not (any_ready policy p events limit s)) s (idle policy p events limit n (go policy p events limit 0 s)) h
+      either Paid (s.stopped || not (any_ready policy p events limit s)) s (idle policy p events limit n (go policy p events limit 0 s)) h
       (idle_paid n (go policy p events limit 0 s) (go_paid 0 s h))
 
   apply_paid : (ch : Choice) (s : Planning) → Paid s → Paid (apply policy p events limit ch s)
@@ -246,18 +249,18 @@ module _ (policy : Policy) (arch : Arch) (p : Program) (events : Events) (limit 
   unchosen_paid : (s : Planning) → Paid s → Paid (unchosen policy p events limit s)
   unchosen_paid s h =
       let k = policy.otherwise (limit - s.left) in
-      either {Paid} (any_ready policy p events limit s) (go policy p events limit k s) (enter policy p events limit s) (go_paid k s h) (enter_paid s h)
+      either Paid (any_ready policy p events limit s) (go policy p events limit k s) (enter policy p events limit s) (go_paid k s h) (enter_paid s h)
 
   to_end_paid : (n : ℕ) (s : Planning) → Paid s → Paid (to_end policy p events limit n s)
   to_end_paid zero s h = h
   to_end_paid (suc n) s h =
-      either {Paid} (has_ended policy p events limit s) s (to_end policy p events limit n (unchosen policy p events limit s)) h
+      either Paid (has_ended policy p events limit s) s (to_end policy p events limit n (unchosen policy p events limit s)) h
       (to_end_paid n (unchosen policy p events limit s) (unchosen_paid s h))
 
   choose_paid : (cs : List Choice) (s : Planning) → Paid s → Paid (choose policy p events limit cs s)
   choose_paid [] s h = to_end_paid (turns_left policy p events limit s) s h
   choose_paid (c ∷ cs) s h =
-      either {Paid} (has_ended policy p events limit s) s (choose policy p events limit cs (apply policy p events limit c s)) h
+      either Paid (has_ended policy p events limit s) s (choose policy p events limit cs (apply policy p events limit c s)) h
       (choose_paid cs (apply policy p events limit c s) (apply_paid c s h))
 
   -- ---- the start
@@ -268,9 +271,17 @@ module _ (policy : Policy) (arch : Arch) (p : Program) (events : Events) (limit 
     sized = length-map p.tasks _;
     going = refl;
     pays =
-        omega (arith, l, first_credits (cost arch) p events sound.shaped.begins,
-        sum_by-append (cost arch) (inits_from 0 events.kinds) (brought_after events.kinds 0 events.entries));
+        omega (
+          arith,
+          l,
+          first_credits (cost arch) p events sound.shaped.begins,
+          sum_by-append (cost arch) (inits_from 0 events.kinds) (brought_after events.kinds 0 events.entries),
+        );
   }
 
   pub plan_paid : (choices : List Choice) → costs arch events ≤ limit → Paid (plan policy p events choices limit)
   plan_paid choices l = choose_paid choices (record { run = first_run p events; steps = []; left = limit; stopped = false }) (first_paid l)
+
+pub never_stopped : (policy : Policy) (arch : Arch) (p : Program) (events : Events) (choices : List Choice) (limit : ℕ) → NamesReady policy → Sound arch p → Fit arch events → costs arch events ≤ limit
+    → (plan policy p events choices limit).stopped ≡ false
+never_stopped policy arch p events choices limit names sound fit enough = (plan_paid policy arch p events limit names sound fit choices enough).going
