@@ -1,25 +1,25 @@
 -- The credit of a run: the instructions that its messages may still cost. Each instruction takes from it, and an entry
 -- brings no more than its messages cost.
-use Rattle.std.proofs.Common.{◌≡◌, ◌≢◌, ◌<◌, ◌≤◌, ℕ, zero, suc, ◌+◌, ◌-◌, ◌*◌, ℤ, Bool, true, false, cond, List, [], ◌∷◌, ◌++◌, map, fold, take, drop, length, Option, Some, None, refl, sym, ap, ◌∙◌, subst, arith, slice_get, slice_set, slice_index, slice_index_or, length-append, length-set}
+use Rattle.std.proofs.Common.{◌≡◌, ◌≢◌, ◌<◌, ◌≤◌, ℕ, zero, suc, ◌+◌, ◌-◌, ◌*◌, ℤ, Bool, true, false, cond, List, [], ◌∷◌, ◌++◌, map, fold, take, drop, length, Option, Some, None, refl, sym, ap, ◌∙◌, subst, arith, slice_get, slice_set, slice_index, slice_index_or, length-append}
 use Rattle.std.specs.Prelude.{All}
 use Rattle.std.specs.List.{sum_by}
-use Rattle.std.proofs.lemmas.List.Sums.{sum_by-cons, sum_by-append}
+use Rattle.std.proofs.lemmas.List.Sums.{sum_by-cons}
 use Rattle.std.proofs.lemmas.Nat.{mul-le}
 use Rattle.tower_types.specs.Value.{Value, flat}
 use Rattle.tower_syntax.specs.declared.arch.SourceKind.{SourceKind}
 use Rattle.tower_syntax.specs.declared.arch.SourceKind.TheVariants as kind
-use Rattle.tower_syntax.specs.Arch.{Entry, tick, signal, Events}
+use Rattle.tower_syntax.specs.Arch.{Entry, Events}
 use Rattle.tower_syntax.specs.Arrival.{is_init, ticks, brought, is_full}
 use Rattle.task_code.specs.Program.{Program}
 use Rattle.task_code.specs.Does.{Does, Stuck, Private, Takes, Locks, Unlocks, Writes, does, executes_at, without_lock}
 use Rattle.task_code.specs.Machine.{Machine, queue, task_does, next_does, bring, received, first_machine, first_queue}
-use Rattle.task_code.specs.Standing.{Standing, IsIdle, IsReady, standing_of, at_queue, held_back}
+use Rattle.task_code.specs.Standing.{IsReady, standing_of, at_queue, held_back}
 use Rattle.task_code.specs.declared.program.Task.{Task}
 use Rattle.task_code.specs.Own.{first_own}
 use Rattle.task_code.specs.Run.{Run, turned}
 use Rattle.lock_reduction.specs.Shaped.{BeginsWithTake}
 use Rattle.task_alone.proofs.Lists.{get_set_other, get_map, get_within, all_at}
-use Rattle.run_laws.specs.Costs.{inits_from, brought_after}
+use Rattle.run_laws.specs.Costs.{inits_from}
 use Rattle.run_laws.proofs.Sums.{sum_to, sum_zero, sum_same, sum_drop, sum_grow, sum_first}
 
 -- ---- lists

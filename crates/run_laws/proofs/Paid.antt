@@ -1,34 +1,29 @@
 -- A plan that is paid for: its credits, with what the record will bring, are no more than the instructions that are left.
-use Rattle.std.proofs.Common.{◌≡◌, ◌<◌, ◌≤◌, ℕ, zero, suc, ◌+◌, ◌-◌, ◌*◌, Bool, true, false, cond, ◌||◌, not, List, [], ◌∷◌, ◌++◌, map, take, drop, length, Option, Some, None, refl, sym, ap, ◌∙◌, subst, arith, slice_get, slice_set, slice_index, slice_index_or, length-set}
-use Rattle.std.specs.Prelude.{All}
+use Rattle.std.proofs.Common.{◌≡◌, ◌<◌, ◌≤◌, ℕ, zero, suc, ◌+◌, ◌-◌, Bool, true, false, ◌||◌, not, List, [], ◌∷◌, ◌++◌, map, take, drop, length, Option, Some, None, refl, sym, ap, ◌∙◌, subst, arith, slice_get, length-set}
 use Rattle.std.specs.List.{sum_by}
 use Rattle.std.proofs.lemmas.List.{length-map}
 use Rattle.std.proofs.lemmas.List.Sums.{sum_by-append}
 use Rattle.std.proofs.lemmas.Option.{same_Some, slice_get_within}
 use Rattle.tower_syntax.specs.declared.event.Choice.{Choice}
 use Rattle.tower_syntax.specs.declared.event.Choice.TheVariants as choice
-use Rattle.tower_syntax.specs.Arch.{Arch, Entry, tick, signal, Events}
+use Rattle.tower_syntax.specs.Arch.{Arch, Entry, Events}
 use Rattle.tower_syntax.specs.Arrival.{ticks, brought}
 use Rattle.tower_syntax.specs.Graph.{numbers_before}
 use Rattle.tower_syntax.specs.Weights.{cost}
 use Rattle.tower_meaning.specs.Atomic.{Fit}
 use Rattle.task_code.specs.declared.program.Task.{Task}
-use Rattle.task_code.specs.declared.program.Instr.{Instr}
-use Rattle.task_code.specs.declared.program.Instr.TheVariants.{Take}
 use Rattle.task_code.specs.Program.{Program}
-use Rattle.task_code.specs.Own.{Own, first_own, held_monitor}
-use Rattle.task_code.specs.Does.{Does, Stuck, Private, Takes, Locks, Unlocks, Writes, does, executes_at, without_lock}
-use Rattle.task_code.specs.Machine.{Machine, queue, task_does, next_does, bring, received, first_machine, first_queue}
-use Rattle.task_code.specs.Standing.{Standing, IsStuck, IsIdle, IsWaiting, IsReady, is_ready, standing, standing_of, standings, is_finished}
+use Rattle.task_code.specs.Own.{held_monitor}
+use Rattle.task_code.specs.Does.{Does, Stuck, Private, Takes, Locks, Unlocks, Writes}
+use Rattle.task_code.specs.Machine.{Machine, task_does, next_does, received}
+use Rattle.task_code.specs.Standing.{Standing, IsStuck, IsIdle, IsWaiting, IsReady, is_ready, standing, standing_of}
 use Rattle.task_code.specs.Run.{Run, Step, Turn, Event, step, steps_from, reached, first_run, if_ready, came, turned, is_visible, counted}
 use Rattle.task_code.specs.Policy.{Policy}
 use Rattle.task_code.specs.Plan.{Planned, goes, comes, step_of, Planning, repeated, ready, picked, stepped, instruct, entered, enter, go_with, go, is_seen, look, see_with, see, any_ready, idle, apply, has_ended, unchosen, to_end, turns_left, choose, plan}
 use Rattle.lock_reduction.specs.Reduce.{Sound}
-use Rattle.lock_reduction.specs.Shaped.{BeginsWithTake}
-use Rattle.task_alone.proofs.Lists.{get_unmap, get_map, get_within, all_at}
-use Rattle.run_laws.specs.Costs.{inits_from, brought_after, messages, costs}
+use Rattle.task_alone.proofs.Lists.{get_unmap}
+use Rattle.run_laws.specs.Costs.{inits_from, brought_after, costs}
 use Rattle.run_laws.specs.Enough.{NamesReady}
-use Rattle.run_laws.proofs.Sums.{sum_to, sum_same}
 use Rattle.run_laws.proofs.Credit.{credits, turn_takes, entry_adds, first_credits, received_place}
 
 -- ---- the record

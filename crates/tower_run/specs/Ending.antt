@@ -80,5 +80,4 @@ module _ {S : Type 0} (written : S → Option (List ℕ)) (faults : S → ℕ) w
 
   -- a run was carried out by these choices
   abbrev pub CarriesOut : Job → Going → S → S → List Choice → Ran → Type 0
-  CarriesOut j r from to choices result =
-      (c : Course) (s : Planning) (first : S) → Tells written faults c s false first j r from → Ended c (choosing choices c s) first to result
+  CarriesOut j r from to choices result = (c : Course) (s : Planning) (first : S) → Tells written faults c s false first j r from → Ended c (choosing choices c s) first to result

@@ -88,8 +88,7 @@ pub fn put_ending<O: Sink>(
 ) -> Put
     requires monitors { (m : ℕ) → m < length arch.now.monitors → IsFitMonitor arch.now machine.now m }
     requires sources { length arch.now.sources ≡ length machine.now.program.tasks }
-    ensures { PutsOver O.written O.faults out.old page.old.held out.new page.new.held
-        (end_text arch.now machine.now.machine end.count end.waits end.stopped) result }
+    ensures { PutsOver O.written O.faults out.old page.old.held out.new page.new.held (end_text arch.now machine.now.machine end.count end.waits end.stopped) result }
 {
     match put_monitors(page, out, arch, machine) {
         Put::Done => {}

@@ -3,8 +3,7 @@ ghost use Rattle.std.specs.Prelude.{◌≡◌, ◌<◌, ◌≤◌, true, cond, S
 ghost use Rattle.task_machine.specs.State.{ready, holds};
 ghost use Rattle.tower_run.specs.Pieces.{AreFitLines};
 ghost use Rattle.task_code.specs.Policy.{fixed_names};
-ghost use Rattle.tower_run.specs.Going.{IsGoing, Carries, Shows, IsReadyTurn, IsLeftTurn, HasStepped, IsOneTurn, NeverStops, NeverPasses, due_of, task_left};
-ghost use Rattle.tower_run.specs.Going.{going_with, going, going_on, seeing, looking, entering, idling, unchosen, ending};
+ghost use Rattle.tower_run.specs.Going.{IsGoing, Carries, Shows, IsReadyTurn, IsLeftTurn, HasStepped, IsOneTurn, NeverStops, NeverPasses, due_of, task_left, going_with, going, going_on, seeing, looking, entering, idling, unchosen, ending};
 
 use crate::going::{Going, Job, Turn};
 use crate::only::Only;
@@ -41,8 +40,7 @@ fn advance<P: Policy, O: Sink>(job: &Job, run: &mut Going, policy: &P, k: u32, o
     requires waits { run.old.waits ≤ run.old.count }
     requires tasks { P.tasks policy.now ≡ length run.old.machine.program.tasks }
     requires monitors { IfSome (P.monitors policy.now) (λ n. n ≡ length run.old.machine.program.monitors) }
-    ensures carries { Carries O.written O.faults (going_with k (P.names policy.now (ready run.old.machine) (holds run.old.machine) k))
-        job.now run.old out.old run.new out.new result }
+    ensures carries { Carries O.written O.faults (going_with k (P.names policy.now (ready run.old.machine) (holds run.old.machine) k)) job.now run.old out.old run.new out.new result }
     ensures stepped { HasStepped (P.names policy.now (ready run.old.machine) (holds run.old.machine) k) run.old run.new result }
     ensures ready { IsReadyTurn (ready run.old.machine) result }
     ensures one { IsOneTurn job.now.limit run.old run.new result }
