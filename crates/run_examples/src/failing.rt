@@ -68,7 +68,8 @@ fn fails_in_turn(alloc: Global, line: &str) -> Result<bool, AllocError> {
         if answer.status() == whole.status() {
             return Ok(0 < number && answer.out() == whole.out() && answer.err() == whole.err());
         }
-        let is_part = whole.out().starts_with(answer.out()) && whole.err().starts_with(answer.err());
+        let is_part = whole.out().starts_with(answer.out())
+            && whole.err().starts_with(answer.err());
         if answer.status() != Status::WriteFault || !is_part {
             return Ok(false);
         }

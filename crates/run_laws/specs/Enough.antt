@@ -5,7 +5,7 @@ use Rattle.tower_syntax.specs.Arch.{Arch, Events}
 use Rattle.tower_meaning.specs.Atomic.{Fit}
 use Rattle.task_code.specs.Program.{Program}
 use Rattle.task_code.specs.Policy.{Policy}
-use Rattle.task_code.specs.Plan.{plan}
+use Rattle.task_code.specs.Plan.{plan, instructions}
 use Rattle.lock_reduction.specs.Reduce.{Sound}
 use Rattle.run_laws.specs.Costs.{costs}
 
@@ -18,3 +18,9 @@ abbrev pub EnoughNeverStops : Type 0
 EnoughNeverStops = (policy : Policy) (arch : Arch) (p : Program) (events : Events) (choices : List Choice) (limit : ℕ)
     → NamesReady policy → Sound arch p → Fit arch events → costs arch events ≤ limit
     → (plan policy p events choices limit).stopped ≡ false
+
+-- and whatever the limit, it executes no more than they cost
+abbrev pub CostsAreMost : Type 0
+CostsAreMost = (policy : Policy) (arch : Arch) (p : Program) (events : Events) (choices : List Choice) (limit : ℕ)
+    → NamesReady policy → Sound arch p → Fit arch events
+    → instructions (plan policy p events choices limit).steps ≤ costs arch events

@@ -42,7 +42,7 @@ never_stops : (arch : Arch) (bs text : List ℕ) (events : Events) (choices : Li
     → run_stops (code_of arch) events choices limit None ≡ false
 never_stops arch bs text events choices limit accepted spelled enough =
     let p = code_of arch in
-    never_stopped (fixed p) arch p events choices limit (fixed_names_ready p) (sound bs arch accepted) (record_fits arch text events spelled) enough
+    never_stopped arch p events (sound bs arch accepted) (record_fits arch text events spelled) (fixed p) limit (fixed_names_ready p) choices enough
 
 done_status : (arch : Arch) (events : Events) (choices : List Choice) (limit : ℕ) → run_stops (code_of arch) events choices limit None ≡ false → Done ≡ status_of arch events choices limit
 unfolding status_of
