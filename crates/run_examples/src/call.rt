@@ -16,14 +16,17 @@ pub struct Answer {
 }
 
 impl Answer {
+    /// Its status.
     pub fn status(&self) -> Status {
         self.status
     }
 
+    /// What it wrote on `out`.
     pub fn out(&self) -> &[u8] {
         self.out.bytes()
     }
 
+    /// What it wrote on `err`.
     pub fn err(&self) -> &[u8] {
         self.err.bytes()
     }

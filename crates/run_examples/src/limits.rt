@@ -16,6 +16,7 @@ const EACH: &str = "towerc run nav.tower --record nav.record";
 /// The run that is stopped before its last instruction.
 const LAST: &str = "towerc run clock.tower --record clock.record";
 
+/// The words of a line, with a limit of instructions.
 fn with_limit(alloc: Global, line: &str, limit: u64) -> Result<String, AllocError> {
     format!(in alloc; "{line} --steps {limit}")
 }
