@@ -6,4 +6,5 @@ pub mod Fetching
 pub mod FileFacts
 pub mod InputFacts
 pub mod RunFacts
+pub mod RunLaws
 pub mod WordFacts

@@ -10,6 +10,7 @@ pub mod Laws
 pub mod RecordInput
 pub mod Requests
 pub mod Run
+pub mod RunLaws
 pub mod Status
 pub mod Top
 pub mod Words

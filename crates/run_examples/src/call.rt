@@ -1,0 +1,61 @@
+//! A call of the program, with what it wrote.
+
+use std::alloc::{AllocError, Global};
+use tower_io::{MemSink, Shelf};
+use tower_top::{Status, tower};
+
+/// The most bytes that a call of the table writes.
+const ROOM: usize = 1_000_000;
+
+/// What came of a call.
+#[derive(Drop)]
+pub struct Answer {
+    status: Status,
+    out: MemSink,
+    err: MemSink,
+}
+
+impl Answer {
+    /// Its status.
+    pub fn status(&self) -> Status {
+        self.status
+    }
+
+    /// What it wrote on `out`.
+    pub fn out(&self) -> &[u8] {
+        self.out.bytes()
+    }
+
+    /// What it wrote on `err`.
+    pub fn err(&self) -> &[u8] {
+        self.err.bytes()
+    }
+}
+
+/// The words of a line.
+fn words(alloc: Global, line: &str) -> Result<Vec<String>, AllocError> {
+    let mut words = Vec::new(alloc);
+    for word in line.split(' ') {
+        words.push(String::from_str(alloc, word)?)?;
+    }
+    Ok(words)
+}
+
+/// Carries out the words of a line, where the put with this number on `out` or on `err` fails.
+pub fn call_failing<F: Shelf>(
+    alloc: Global,
+    line: &str,
+    shelf: &mut F,
+    number: u64,
+) -> Result<Answer, AllocError> {
+    let words = words(alloc, line)?;
+    let mut out = MemSink::new(alloc, ROOM, Vec::from_slice(alloc, &[number])?)?;
+    let mut err = MemSink::new(alloc, ROOM, Vec::from_slice(alloc, &[number])?)?;
+    let status = tower(alloc, words.as_slice(), shelf, &mut out, &mut err);
+    Ok(Answer { status, out, err })
+}
+
+/// Carries out the words of a line.
+pub fn call<F: Shelf>(alloc: Global, line: &str, shelf: &mut F) -> Result<Answer, AllocError> {
+    call_failing(alloc, line, shelf, u64::MAX)
+}

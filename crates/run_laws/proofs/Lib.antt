@@ -1,0 +1,4 @@
+pub mod Sums
+pub mod Credit
+pub mod Plans
+pub mod Paid
