@@ -8,6 +8,7 @@ pub mod Rows
 pub mod Writing
 pub mod FewWords
 pub mod Answers
+pub mod Draft
 pub mod Judging
 pub mod Reading
 pub mod Laws

@@ -6,7 +6,7 @@ ghost use Rattle.task_listing.specs.FewWords.{listed};
 ghost use Rattle.task_listing.specs.Lines.{byte_limit, whole_lines, behind_lines};
 ghost use Rattle.task_listing.specs.Answers.{both, count, priority, title_line, ending_line, count_line, task_line, buffer_line};
 ghost use Rattle.task_listing.specs.Judging.{fault_in, begun, marked, walk, judged, closed, verdict};
-ghost use Rattle.task_listing.specs.Reading.{Judges, Says, is_empty, opened, with_place, awaits_of, state_of, state_with, Takes, TakesAny};
+ghost use Rattle.task_listing.specs.Reading.{Judges, Says, is_empty, opened, with_ended, with_place, awaits_of, state_of, state_with, Takes, TakesAny};
 
 use crate::fault::{ListFault, ListKind};
 use crate::number::{count, priority};
@@ -279,7 +279,7 @@ impl Reader {
 
     /// Ends the last task.
     fn close(&mut self) -> Result<(), AllocError>
-        ensures { OnOk result (state_of self.new ≡ state_of self.old) }
+        ensures { OnOk result (state_of self.new ≡ with_ended (state_of self.old)) }
     {
         if !self.is_open {
             return Ok(());
@@ -301,6 +301,8 @@ impl Reader {
         let (priority, ((message, room), (buffers, code))) = numbers;
         self.is_open = true;
         self.priority = priority;
+        self.buffers = Items::new(self.alloc);
+        self.code = Items::new(self.alloc);
         self.head = Head {
             message,
             room,
