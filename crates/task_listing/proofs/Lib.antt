@@ -10,3 +10,6 @@ pub mod Backs
 pub mod Joined
 pub mod Runs
 pub mod Items
+pub mod Programs
+pub mod Ruled
+pub mod Readings

@@ -10,6 +10,7 @@ use Rattle.task_listing.specs.declared.reading.Stage.TheVariants as stage
 use Rattle.task_listing.specs.declared.reading.Reader.{Reader}
 use Rattle.task_listing.specs.Lines.{Bytes}
 use Rattle.task_code.specs.declared.program.Instr.{Instr}
+use Rattle.task_code.specs.Program.{Program}
 use Rattle.task_listing.specs.Context.{behind}
 use Rattle.task_listing.specs.Draft.{ended_task, begun_task, with_instr}
 use Rattle.task_listing.specs.Judging.{State, judge, judge_kind, next_kind, next, with_awaits, marked, is_misplaced}
@@ -76,3 +77,7 @@ Judges v list_fault.NoMemory = Unit {0}
 abbrev pub Says : {A : Type 0} → Result A (ℕ × ListKind) → A → Result (Unit {0}) ListFault → Type 0
 Says v a (Ok u) = v ≡ Ok a
 Says v a (Err f) = Judges v f
+
+-- the program that lines have come to
+abbrev pub program_of : State → Program
+program_of s = record { monitors = s.context.monitors; outputs = s.context.outputs; tasks = s.draft.tasks }

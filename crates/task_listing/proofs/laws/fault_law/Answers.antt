@@ -1,4 +1,3 @@
-use Rattle.task_listing.proofs.Items.{task_block}
 use Rattle.task_listing.proofs.Verdicts.{fault_is_first, none_is_faultless}
 use Rattle.task_listing.proofs.laws.fault_law.Goals as goal
 
