@@ -32,7 +32,8 @@ use Rattle.task_listing.specs.Spelling.{natural, text, words_of, scalar_text}
 use Rattle.task_listing.specs.Context.{numbers}
 use Rattle.task_listing.specs.Answers.{Answer, number_in, or_err, count_up_to, operand, negated, unsigned, literal_in, literal, unary_named, binary_named, type, both, and_then, count_line, buffer_line, task_line, with_one, with_two, with_three, push, instr_line}
 use Rattle.task_listing.proofs.Decimals.{number_of}
-use Rattle.task_listing.proofs.Spelled.{IsOperands, IsSmall, numbers_text}
+use Rattle.task_listing.specs.InstrRows.{IsOperands, IsSmall}
+use Rattle.task_listing.proofs.Spelled.{numbers_text}
 
 -- ---- digits
 

@@ -28,7 +28,8 @@ use Rattle.task_listing.specs.Draft.{ended_task, begun_task, numbered, with_inst
 use Rattle.task_listing.specs.Answers.{Answer, count_line, buffer_line, instr_line}
 use Rattle.task_listing.specs.Answers.{task_line as read_task_line}
 use Rattle.task_listing.specs.Judging.{State, next_kind, walk, marked, fault_in, keeps, is_zero, is_misplaced}
-use Rattle.task_listing.proofs.Spelled.{IsOperands, IsSmall, instr_is, numbers_text, count_line_is, buffer_line_is, task_line_is}
+use Rattle.task_listing.specs.InstrRows.{IsOperands, IsSmall}
+use Rattle.task_listing.proofs.Spelled.{instr_is, numbers_text, count_line_is, buffer_line_is, task_line_is}
 use Rattle.task_listing.proofs.Backs.{ne_eqb, decimal_unblank, instr_back, count_line_back, buffer_line_back, task_line_back, numbers_back, AllSmall}
 use Rattle.task_listing.proofs.Joined.{AreClean, words_joined, AllNoLf, joined_no_lf, all_no_lf}
 use Rattle.task_listing.proofs.Runs.{spelled, Known, at, IsWhole, First, first_of, line_on, Begins, Block, flat, puts, AllFit, many_on, Many, many_of, many_behind, many_clean, numbers_clean, numbers_split, Header, ok_of}

@@ -23,7 +23,8 @@ use Rattle.task_listing.specs.Listing.{counted, number_text, buffer_text, instr_
 use Rattle.task_listing.specs.Context.{counted_to}
 use Rattle.task_listing.specs.Draft.{no_draft, ended_task}
 use Rattle.task_listing.specs.Judging.{State, begun, walk, walk_on, judge, next_kind, is_range, keeps, limited, ended, closed, finished, verdict, Verdict}
-use Rattle.task_listing.proofs.Spelled.{IsOperands, IsSmall, title_is, ending_is}
+use Rattle.task_listing.specs.InstrRows.{IsOperands, IsSmall}
+use Rattle.task_listing.proofs.Spelled.{title_is, ending_is}
 use Rattle.task_listing.proofs.Joined.{AllNoLf, all_no_lf, whole_ended, behind_ended, lines_back, texts_both}
 use Rattle.task_listing.proofs.Joined as joined
 use Rattle.task_listing.proofs.Runs.{Known, at, IsWhole, First, first_of, line_on, flat, puts, AllFit, counted_lines, counted_on, Counted, counted_of, counted_behind, counted_clean}

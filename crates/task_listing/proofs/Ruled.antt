@@ -15,7 +15,7 @@ use Rattle.task_listing.specs.declared.rules.Head.{Head}
 use Rattle.task_listing.specs.Context.{counted_to}
 use Rattle.task_listing.specs.Draft.{Draft, ended_task, begun_task}
 use Rattle.task_listing.specs.Judging.{is_range, keeps}
-use Rattle.task_listing.proofs.Spelled.{IsOperands, IsSmall}
+use Rattle.task_listing.specs.InstrRows.{IsOperands, IsSmall}
 use Rattle.task_listing.proofs.Runs.{Known, puts, AllFit}
 use Rattle.task_listing.proofs.Items.{IsFew, put_monitor, put_output, put_buffer, FitsBuffer, put_instr, FitsInstr, begin_task, with_buffers, put_task, FitsTask}
 use Rattle.task_listing.proofs.Programs.{fresh, with_monitors, with_outputs, with_tasks, final, FitsProgram}

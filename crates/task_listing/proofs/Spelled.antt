@@ -35,45 +35,10 @@ use Rattle.task_listing.specs.Listing.{task_line}
 use Rattle.task_listing.specs.Context.{numbers}
 use Rattle.task_listing.specs.Answers.{Answer, number_in, or_err, if_word, count_up_to, count, priority, any_number, operand, negated, unsigned, literal_in, literal, unary_named, binary_named, scalar_named, index_type, type_of, type, both, and_then, title_line, ending_line, count_line, buffer_line, plain_word, plain_named, plain_instr, one_word, one_named, one_instr, two_word, two_named, two_instr, three_word, three_named, three_instr, with_one, with_two, with_three, push, one_line, two_line, three_line, literal_line, cast_line, unary_line, binary_line, plain_line, instr_line}
 use Rattle.task_listing.specs.Answers.{task_line as read_task_line}
+use Rattle.task_listing.specs.InstrRows.{IsOperands, Spells}
 use Rattle.task_listing.proofs.Decimals.{number_is}
 
 -- ---- answers
-
--- the operand that a program wants
-abbrev pub IsOperands : Instr → Type 0
-IsOperands (instr.Push n) = (neg_ℤ (pos (2 ^ 63)) ≤ℤ n) × (n <ℤ pos (2 ^ 64))
-IsOperands (instr.Un op s) = IsScalar s
-IsOperands (instr.Bin op s) = IsScalar s
-IsOperands (instr.Cast s) = IsScalar s
-IsOperands _ = Unit {0}
-
--- each number is one that a program can have
-abbrev pub IsSmall : Instr → Type 0
-IsSmall (instr.Ld a) = a < 2 ^ 32
-IsSmall (instr.St a) = a < 2 ^ 32
-IsSmall (instr.Ldx a n) = (a < 2 ^ 32) × (n < 2 ^ 32)
-IsSmall (instr.Stx a n) = (a < 2 ^ 32) × (n < 2 ^ 32)
-IsSmall (instr.Ldm m a n) = (m < 2 ^ 32) × (a < 2 ^ 32) × (n < 2 ^ 32)
-IsSmall (instr.Stm m a n) = (m < 2 ^ 32) × (a < 2 ^ 32) × (n < 2 ^ 32)
-IsSmall (instr.Jmp to) = to < 2 ^ 32
-IsSmall (instr.Jz to) = to < 2 ^ 32
-IsSmall (instr.Call to) = to < 2 ^ 32
-IsSmall (instr.Take a) = a < 2 ^ 32
-IsSmall (instr.Lock m) = m < 2 ^ 32
-IsSmall (instr.Unlock m) = m < 2 ^ 32
-IsSmall (instr.Out o a) = (o < 2 ^ 32) × (a < 2 ^ 32)
-IsSmall (instr.Bclr b) = b < 2 ^ 32
-IsSmall (instr.Bput b) = b < 2 ^ 32
-IsSmall (instr.Badd b) = b < 2 ^ 32
-IsSmall (instr.Bget b) = b < 2 ^ 32
-IsSmall (instr.Bcnt b) = b < 2 ^ 32
-IsSmall _ = Unit {0}
-
--- the words are those of the instruction
-pub record Spells (ws : List Bytes) (i : Instr) : Type 0 where
-  pub same : ws ≡ map text (words_of i)
-  pub operands : IsOperands i
-  pub small : IsSmall i
 
 or_err_is : {A : Type 0} (k : ListKind) (o : Option A) (a : A) → or_err k o ≡ Ok a → o ≡ Some a
 or_err_is k None a h = cc

@@ -1,11 +1,14 @@
 -- The laws of the definitions.
-use Rattle.std.specs.Prelude.{◌≡◌, ◌⊎◌, ◌≤◌, ℕ, All, length, Ok, Err}
+use Rattle.std.specs.Prelude.{◌≡◌, ◌⊎◌, ◌↔◌, ◌≤◌, ℕ, List, All, length, Some, Ok, Err}
+use Rattle.task_code.specs.declared.program.Instr.{Instr}
 use Rattle.task_code.specs.Program.{Program}
 use Rattle.task_code.specs.Rules.{KeepsRules}
 use Rattle.task_listing.specs.declared.fault.ListKind.{ListKind}
 use Rattle.task_listing.specs.Lines.{Bytes, byte_limit}
 use Rattle.task_listing.specs.Listing.{listing}
 use Rattle.task_listing.specs.Judging.{State, verdict}
+use Rattle.task_listing.specs.Answers.{instr_line}
+use Rattle.task_listing.specs.InstrRows.{Spells}
 use Rattle.task_listing.specs.Faults.{IsFirst, IsFaultless}
 
 -- the verdict is the first of what offends
@@ -50,3 +53,7 @@ IsListingOrFault = (bs : Bytes) → IsListing bs ⊎ HasOneFault bs
 -- and no text is both
 abbrev pub NoListingHasFault : Type 0
 NoListingHasFault = (bs : Bytes) (n : ℕ) (k : ListKind) → IsListing bs → IsFirst bs n k → ⊥
+
+-- words are read as an instruction exactly where they are those of its row in the table
+abbrev pub LinesAreRows : Type 0
+LinesAreRows = (ws : List Bytes) (i : Instr) → (instr_line ws ≡ Ok (Some i)) ↔ Spells ws i

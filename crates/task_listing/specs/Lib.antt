@@ -11,4 +11,5 @@ pub mod Answers
 pub mod Draft
 pub mod Judging
 pub mod Reading
+pub mod InstrRows
 pub mod Laws

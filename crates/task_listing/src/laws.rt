@@ -1,5 +1,5 @@
 //! The laws of the definitions. Each is the contract of a function that does nothing.
-ghost use Rattle.task_listing.specs.Laws.{FaultIsFirst, NoneIsFaultless, ListingIsOfOne, ListingIsFaultless, IsListingOrFault, NoListingHasFault};
+ghost use Rattle.task_listing.specs.Laws.{FaultIsFirst, NoneIsFaultless, ListingIsOfOne, ListingIsFaultless, IsListingOrFault, NoListingHasFault, LinesAreRows};
 
 /// The verdict of a text is the first of what offends, and none where nothing does.
 pub fn fault_law()
@@ -14,4 +14,10 @@ pub fn listing_law()
     ensures faultless { ListingIsFaultless }
     ensures either { IsListingOrFault }
     ensures apart { NoListingHasFault }
+{}
+
+/// Words are read as an instruction exactly where they are those of its row in the table by which it is written, with
+/// operands in their ranges.
+pub fn table_law()
+    ensures { LinesAreRows }
 {}

@@ -7,3 +7,4 @@ pub mod FileFacts
 pub mod InputFacts
 pub mod RunFacts
 pub mod WordFacts
+pub mod Priorities

@@ -1,5 +1,5 @@
 //! What holds of every call. Each law is the contract of a function that does nothing.
-ghost use Rattle.tower_top.specs.Laws.{OneAnswer, DueComes, AnswersAreDue};
+ghost use Rattle.tower_top.specs.Laws.{OneAnswer, DueComes, AnswersAreDue, ListingsAreSound};
 
 /// Where the shelf tells the texts that are to be read, at most one status is due, with its texts.
 pub fn one_answer_is_due()
@@ -15,4 +15,10 @@ pub fn what_is_due_comes()
 /// Where all inputs are valid, the command's answer is due.
 pub fn answers_are_due()
     ensures { AnswersAreDue }
+{}
+
+/// What `compile` writes of an accepted file is the listing of one program and of no other, and that program is sound: in
+/// every run over every event record that fits, whatever order of turns, it does what the handlers say.
+pub fn listings_are_sound()
+    ensures { ListingsAreSound }
 {}
