@@ -13,3 +13,4 @@ pub mod Items
 pub mod Programs
 pub mod Ruled
 pub mod Readings
+pub mod Worked

@@ -13,3 +13,4 @@ pub mod Judging
 pub mod Reading
 pub mod InstrRows
 pub mod Laws
+pub mod WorkedTexts

@@ -1,5 +1,6 @@
 //! The laws of the definitions. Each is the contract of a function that does nothing.
 ghost use Rattle.task_listing.specs.Laws.{FaultIsFirst, NoneIsFaultless, ListingIsOfOne, ListingIsFaultless, IsListingOrFault, NoListingHasFault, LinesAreRows};
+ghost use Rattle.task_listing.specs.WorkedTexts.{WorkedTexts};
 
 /// The verdict of a text is the first of what offends, and none where nothing does.
 pub fn fault_law()
@@ -20,4 +21,9 @@ pub fn listing_law()
 /// operands in their ranges.
 pub fn table_law()
     ensures { LinesAreRows }
+{}
+
+/// Worked texts: the counter's listing, of which `task_code` works the marks, and damaged ones with their faults.
+pub fn worked_texts()
+    ensures { WorkedTexts }
 {}
