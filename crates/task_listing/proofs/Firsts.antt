@@ -128,7 +128,7 @@ abbrev pub PlaceIs : Context → ℕ → List Bytes → Option ℕ → Type 0
 PlaceIs c n ls None = (i : ℕ) (j : ListKind) → OffendsFrom c n ls i j → ⊥
 PlaceIs c n ls (Some m) = OffendsFrom c n ls m fault.Place × ((i : ℕ) (j : ListKind) → OffendsFrom c n ls i j → (j ≡ fault.Place) × (m ≤ i))
 
-walk_none : (s : State) (n : ℕ) (l : Bytes) (ls : List Bytes) (t : State) → walk s n (l ∷ ls) ≡ Ok t → (judge s.context.awaits (words l) ≡ None) × (walk (next s n (words l)) (n + 1) ls ≡ Ok t)
+pub walk_none : (s : State) (n : ℕ) (l : Bytes) (ls : List Bytes) (t : State) → walk s n (l ∷ ls) ≡ Ok t → (judge s.context.awaits (words l) ≡ None) × (walk (next s n (words l)) (n + 1) ls ≡ Ok t)
 walk_none s n l ls t h = by_judge (judge s.context.awaits (words l)) refl h
   where
     by_judge : (o : Option ListKind) → judge s.context.awaits (words l) ≡ o → walk_on o n (walk (next s n (words l)) (n + 1) ls) ≡ Ok t → (judge s.context.awaits (words l) ≡ None) × (walk (next s n (words l)) (n + 1) ls ≡ Ok t)
@@ -148,7 +148,7 @@ place_by [] s n ws = unmarked s.place n
     unmarked (Some m) n = refl
 place_by (k ∷ ks) s n ws = refl
 
-next_place : (s : State) (n : ℕ) (l : Bytes) → (next s n (words l)).place ≡ marked s.place (breaks s.context.awaits s.context (words l)) n
+pub next_place : (s : State) (n : ℕ) (l : Bytes) → (next s n (words l)).place ≡ marked s.place (breaks s.context.awaits s.context (words l)) n
 next_place s n l = place_by s.context.awaits s n (words l)
 
 pub walked_marked : (s : State) (n : ℕ) (ls : List Bytes) (t : State) (p : ℕ) → walk s n ls ≡ Ok t → s.place ≡ Some p → t.place ≡ Some p

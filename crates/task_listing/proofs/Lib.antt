@@ -5,3 +5,12 @@ pub mod Taken
 pub mod Ranks
 pub mod Firsts
 pub mod Verdicts
+pub mod Spelled
+pub mod Backs
+pub mod Joined
+pub mod Runs
+pub mod Items
+pub mod Programs
+pub mod Ruled
+pub mod Readings
+pub mod Worked

@@ -15,7 +15,8 @@ use Rattle.task_listing.specs.Numbers.{is_word}
 use Rattle.task_listing.specs.Context.{numbers, behind}
 use Rattle.task_listing.specs.Answers.{Answer, when, number_in, or_err, count_up_to, count, priority, both, task_line}
 use Rattle.task_listing.specs.Judging.{State, judge, next_kind, next_by, next, walk, walk_on, fault_in, with_awaits, marked, is_zero}
-use Rattle.task_listing.specs.Reading.{is_empty, awaits_of, state_of, Takes, TakesAny, opened}
+use Rattle.task_listing.specs.Reading.{is_empty, awaits_of, state_of, Takes, TakesAny, opened, with_ended}
+use Rattle.task_listing.specs.Draft.{numbered}
 
 pub takes_any : (k : Kind) (ks : List Kind) (old new : Reader) (n : ℕ) (ws : List Bytes) (r : Result (Unit {0}) ListFault) → awaits_of old.stage ≡ k ∷ ks → Takes k ks old new n ws r → TakesAny old new n ws r
 takes_any k ks old new n ws (Ok u) e h = (ap (λ ls. judge ls ws) e ∙ h.0, h.1 ∙ sym (ap (λ ls. next_by ls (state_of old) n ws) e))
@@ -107,13 +108,13 @@ task_numbers (a ∷ p ∷ m ∷ r ∷ b ∷ c ∷ []) (p', ((m', r'), (b', c')))
     five _ _ _ _ _ p' m' r' b' c' (counts 255 p p' u.0) (counts 1048576 m m' x.0) (counts 1048576 r r' x.1) (counts 1048576 b b' y.0) (counts 1048576 c c' y.1)
 
 abbrev next_of : List Kind → State → ℕ → List ℕ → State
-next_of ks s n ns = record { context = behind kind.Task ns (with_awaits ks s.context); place = marked s.place (is_zero (slice_get ns 1)) n }
+next_of ks s n ns = record { context = behind kind.Task ns (with_awaits ks s.context); place = marked s.place (is_zero (slice_get ns 1)) n; draft = numbered kind.Task s.context.head ns s.draft }
 
-opened_is : (ks : List Kind) (s : State) (n : ℕ) (ws : List Bytes) (t : ℕ × ((ℕ × ℕ) × (ℕ × ℕ))) → numbers ws ≡ listed_task t → opened ks s n t ≡ next_kind kind.Task (record s { context = with_awaits ks s.context }) n ws
+opened_is : (ks : List Kind) (s : State) (n : ℕ) (ws : List Bytes) (t : ℕ × ((ℕ × ℕ) × (ℕ × ℕ))) → numbers ws ≡ listed_task t → opened ks (with_ended s) n t ≡ next_kind kind.Task (record s { context = with_awaits ks s.context }) n ws
 opened_is ks s n ws (p, ((m, r), (b, c))) e = ap (next_of ks s n) (sym e)
 
 -- a task was opened by a line
-pub task_taken : (ks : List Kind) (s new : State) (n : ℕ) (ws : List Bytes) (t : ℕ × ((ℕ × ℕ) × (ℕ × ℕ))) → task_line ws ≡ Ok t → new ≡ opened ks s n t → (fault_in (task_line ws) ≡ None) × (new ≡ next_kind kind.Task (record s { context = with_awaits ks s.context }) n ws)
+pub task_taken : (ks : List Kind) (s new : State) (n : ℕ) (ws : List Bytes) (t : ℕ × ((ℕ × ℕ) × (ℕ × ℕ))) → task_line ws ≡ Ok t → new ≡ opened ks (with_ended s) n t → (fault_in (task_line ws) ≡ None) × (new ≡ next_kind kind.Task (record s { context = with_awaits ks s.context }) n ws)
 task_taken ks s new n ws t h e = (ap fault_in h, e ∙ opened_is ks s n ws t (task_numbers ws t h))
 
 pub task_six : (w p m r b c : Bytes) → bytes_eq w (codes "task") ≡ true → both (priority p) (both (both (count m) (count r)) (both (count b) (count c))) ≡ task_line (w ∷ p ∷ m ∷ r ∷ b ∷ c ∷ [])

@@ -11,6 +11,7 @@ use Rattle.task_listing.specs.declared.kind.Kind.TheVariants as kind
 use Rattle.task_listing.specs.declared.rules.Head.{Head}
 use Rattle.task_listing.specs.Lines.{Bytes, byte_limit, words, whole_lines, behind_lines}
 use Rattle.task_listing.specs.Context.{Context, start, behind, numbers}
+use Rattle.task_listing.specs.Draft.{Draft, no_draft, drafted}
 use Rattle.task_listing.specs.Answers.{Answer, title_line, count_line, task_line, buffer_line, instr_line, ending_line}
 
 abbrev pub fault_in : {A : Type 0} → Answer A → Option ListKind
@@ -82,13 +83,14 @@ breaks (k ∷ ks) c ws = breaks_kind k (record c { awaits = ks }) ws
 
 -- ---- the walk
 
--- what is known behind lines, and the first line that breaks a rule
+-- what is known behind lines, the first line that breaks a rule, and the program so far
 pub record State : Type 0 where
   pub context : Context
   pub place : Option ℕ
+  pub draft : Draft
 
 abbrev pub begun : State
-begun = record { context = start; place = None }
+begun = record { context = start; place = None; draft = no_draft }
 
 abbrev pub marked : Option ℕ → Bool → ℕ → Option ℕ
 marked (Some m) b n = Some m
@@ -100,7 +102,11 @@ with_awaits ks c = record c { awaits = ks }
 
 -- behind line n, which is one of the kind, with these words
 abbrev pub next_kind : Kind → State → ℕ → List Bytes → State
-next_kind k s n ws = record { context = behind k (numbers ws) s.context; place = marked s.place (breaks_kind k s.context ws) n }
+next_kind k s n ws = record {
+  context = behind k (numbers ws) s.context;
+  place = marked s.place (breaks_kind k s.context ws) n;
+  draft = drafted k s.context.head ws s.draft;
+}
 
 abbrev pub next_by : List Kind → State → ℕ → List Bytes → State
 next_by [] s n ws = s

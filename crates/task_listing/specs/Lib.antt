@@ -8,6 +8,9 @@ pub mod Rows
 pub mod Writing
 pub mod FewWords
 pub mod Answers
+pub mod Draft
 pub mod Judging
 pub mod Reading
+pub mod InstrRows
 pub mod Laws
+pub mod WorkedTexts

@@ -10,7 +10,9 @@ use Rattle.task_listing.specs.declared.reading.Stage.TheVariants as stage
 use Rattle.task_listing.specs.declared.reading.Reader.{Reader}
 use Rattle.task_listing.specs.Lines.{Bytes}
 use Rattle.task_code.specs.declared.program.Instr.{Instr}
+use Rattle.task_code.specs.Program.{Program}
 use Rattle.task_listing.specs.Context.{behind}
+use Rattle.task_listing.specs.Draft.{ended_task, begun_task, with_instr}
 use Rattle.task_listing.specs.Judging.{State, judge, judge_kind, next_kind, next, with_awaits, marked, is_misplaced}
 
 abbrev pub awaits_of : Stage → List Kind
@@ -26,6 +28,7 @@ abbrev pub state_with : List Kind → Reader → State
 state_with ks r = record {
   context = record { awaits = ks; monitors = r.monitors; outputs = r.outputs; head = r.head; words = r.words; instructions = r.instructions };
   place = r.place;
+  draft = record { tasks = r.tasks; is_open = r.is_open; priority = r.priority; buffers = r.buffers; code = r.code };
 }
 
 abbrev pub state_of : Reader → State
@@ -45,15 +48,21 @@ abbrev pub TakesAny : Reader → Reader → ℕ → List Bytes → Result (Unit 
 TakesAny old new n ws (Ok u) = (judge (awaits_of old.stage) ws ≡ None) × (state_of new ≡ next (state_of old) n ws)
 TakesAny old new n ws (Err f) = Told n (judge (awaits_of old.stage) ws) f
 
+-- the last task has ended
+abbrev pub with_ended : State → State
+with_ended s = record s { draft = ended_task s.context.head s.draft }
+
 -- a task was opened with these numbers, behind which these are awaited
 abbrev pub opened : List Kind → State → ℕ → ℕ × ((ℕ × ℕ) × (ℕ × ℕ)) → State
 opened ks s n (p, ((message, room), (buffers, code))) = record {
   context = behind kind.Task (p ∷ message ∷ room ∷ buffers ∷ code ∷ []) (with_awaits ks s.context);
   place = marked s.place (message == 0) n;
+  draft = begun_task p s.draft;
 }
 
+-- an instruction was read on line n, or none where an operand is none of any
 abbrev pub with_place : ℕ → Option Instr → State → State
-with_place n i s = record s { place = marked s.place (is_misplaced s.context (Ok i)) n }
+with_place n i s = record s { place = marked s.place (is_misplaced s.context (Ok i)) n; draft = with_instr (Ok i) s.draft }
 
 abbrev pub is_empty : List Kind → Bool
 is_empty [] = true
@@ -68,3 +77,7 @@ Judges v list_fault.NoMemory = Unit {0}
 abbrev pub Says : {A : Type 0} → Result A (ℕ × ListKind) → A → Result (Unit {0}) ListFault → Type 0
 Says v a (Ok u) = v ≡ Ok a
 Says v a (Err f) = Judges v f
+
+-- the program that lines have come to
+abbrev pub program_of : State → Program
+program_of s = record { monitors = s.context.monitors; outputs = s.context.outputs; tasks = s.draft.tasks }

@@ -2,9 +2,9 @@
 #![tactic(auto)]
 
 mod fault;
-mod faults;
 mod kind;
 pub mod laws;
+mod listings;
 mod number;
 mod operation;
 mod reading;
@@ -14,7 +14,7 @@ mod words;
 mod writing;
 
 pub use fault::{ListFault, ListKind};
-pub use faults::find_fault;
+pub use listings::read;
 pub use writing::write;
 
 #[cfg(test)]

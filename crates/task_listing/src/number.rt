@@ -1,7 +1,8 @@
 //! Words that are numbers, operations and types.
 ghost use Rattle.std.specs.Prelude.{◌≡◌, ◌≤◌, ◌^◌, ◌-◌, MatchOption, IfOk};
 ghost use Rattle.task_listing.specs.Numbers.{is_blank, has_blank, is_word, are_digits, is_positive, is_negative, is_number};
-ghost use Rattle.task_listing.specs.Answers.{number_in, negated, unsigned, literal_in, count_up_to, count, priority, operand, literal, unary_named, binary_named, scalar_named, index_type, type};
+ghost use Rattle.task_listing.specs.Answers.{number_in, negated, unsigned, literal_in, count_up_to, count, priority, operand, literal};
+ghost use Rattle.task_listing.specs.Answers.{unary_named, binary_named, scalar_named, index_type, type};
 
 use crate::fault::ListKind;
 use tower_syntax::spelling::natural_within;

@@ -1,7 +1,9 @@
 //! The lines of instructions, read.
 ghost use Rattle.std.specs.Prelude.{◌≡◌, [], ◌∷◌};
 ghost use Rattle.task_listing.specs.FewWords.{listed};
-ghost use Rattle.task_listing.specs.Answers.{both, plain_named, plain_instr, one_named, one_instr, two_named, two_instr, three_named, three_instr, with_one, with_two, with_three, push, one_line, two_line, instr_line, literal_line, cast_line, unary_line, binary_line, plain_line, three_line};
+ghost use Rattle.task_listing.specs.Answers.{both, plain_named, plain_instr, one_named, one_instr, two_named, two_instr, three_named, three_instr};
+ghost use Rattle.task_listing.specs.Answers.{with_one, with_two, with_three, push, one_line, two_line, three_line, instr_line};
+ghost use Rattle.task_listing.specs.Answers.{literal_line, cast_line, unary_line, binary_line, plain_line};
 
 use crate::fault::ListKind;
 use crate::number::{binary_named, literal, operand, type_named, unary_named};

@@ -6,7 +6,9 @@ ghost use Rattle.task_listing.specs.FewWords.{listed};
 ghost use Rattle.task_listing.specs.Lines.{byte_limit, whole_lines, behind_lines};
 ghost use Rattle.task_listing.specs.Answers.{both, count, priority, title_line, ending_line, count_line, task_line, buffer_line};
 ghost use Rattle.task_listing.specs.Judging.{fault_in, begun, marked, walk, judged, closed, verdict};
-ghost use Rattle.task_listing.specs.Reading.{Judges, Says, is_empty, opened, with_place, awaits_of, state_of, state_with, Takes, TakesAny};
+ghost use Rattle.task_listing.specs.Reading.{Judges, Says, is_empty, opened, with_ended, with_place};
+ghost use Rattle.task_listing.specs.Reading.{awaits_of, state_of, state_with, program_of, Takes, TakesAny};
+ghost use Rattle.task_code.specs.Rules.{KeepsRules};
 
 use crate::fault::{ListFault, ListKind};
 use crate::number::{count, priority};
@@ -16,7 +18,7 @@ use crate::words::{Words, line_words, split_line};
 use sqlite_items::Items;
 use std::alloc::{AllocError, Global};
 use std::mem;
-use task_code::{Buffer, Instr, Task};
+use task_code::{Buffer, Instr, Program, Task};
 
 /// How many bytes a text may have.
 const BYTE_LIMIT: usize = 67_108_864;
@@ -279,7 +281,7 @@ impl Reader {
 
     /// Ends the last task.
     fn close(&mut self) -> Result<(), AllocError>
-        ensures { OnOk result (state_of self.new ≡ state_of self.old) }
+        ensures { OnOk result (state_of self.new ≡ with_ended (state_of self.old)) }
     {
         if !self.is_open {
             return Ok(());
@@ -301,6 +303,8 @@ impl Reader {
         let (priority, ((message, room), (buffers, code))) = numbers;
         self.is_open = true;
         self.priority = priority;
+        self.buffers = Items::new(self.alloc);
+        self.code = Items::new(self.alloc);
         self.head = Head {
             message,
             room,
@@ -509,6 +513,17 @@ impl Reader {
             return Err(ListFault::At { line, kind });
         }
         self.judge()
+    }
+
+    /// The program of the lines that were taken, which must keep the rules.
+    pub(crate) fn program(&mut self) -> Program
+        requires { KeepsRules (program_of (state_of self.old)) }
+        ensures { result ≡ program_of (state_of self.old) }
+    {
+        let monitors = mem::replace(&mut self.monitors, Items::new(self.alloc));
+        let outputs = mem::replace(&mut self.outputs, Items::new(self.alloc));
+        let tasks = mem::replace(&mut self.tasks, Items::new(self.alloc));
+        Program::new(monitors, outputs, tasks)
     }
 
     /// Reads a text to its end.

@@ -1,5 +1,5 @@
 //! A listing of ten instructions, whole and damaged.
-use crate::{ListFault, ListKind, find_fault};
+use crate::{ListFault, ListKind, read};
 
 const HEAD: &str = "tower-listing 1\nmonitors 1\nmonitor 1\noutputs 0\ntasks 1\ntask 5 1 1 0 10\n";
 
@@ -42,8 +42,8 @@ fn damaged(rt: HostRuntime) -> Result<(), std::test::Fail> {
     ];
     for (end, line, kind) in rows {
         let text = format!(in rt.alloc(); "{HEAD}{CODE}{end}")?;
-        match find_fault(rt.alloc(), text.as_bytes()) {
-            Ok(()) => assert_eq!(rt; line, 99, "{end}"),
+        match read(rt.alloc(), text.as_bytes()) {
+            Ok(_) => assert_eq!(rt; line, 99, "{end}"),
             Err(ListFault::NoMemory) => assert!(rt; false),
             Err(
                 ListFault::At {

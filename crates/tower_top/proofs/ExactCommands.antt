@@ -5,6 +5,7 @@ use Rattle.tower_top.specs.Commands.{asked_by, where_given}
 use Rattle.tower_top.specs.Requests.{Request, no_command, answers}
 use Rattle.tower_top.specs.Top.{asked, request_of}
 use Rattle.tower_top.specs.Check.{check}
+use Rattle.tower_top.specs.Compile.{compile}
 use Rattle.tower_top.specs.Run.{run, run_request, with_choices, limit_of, status_of, text_of}
 use Rattle.tower_top.specs.Words.{Text, Given, given_by}
 use Rattle.tower_top.proofs.Exact.{IsExact, asked_by_exact, where_given_exact}
@@ -12,6 +13,9 @@ use Rattle.tower_top.proofs.ExactInputs.{file_exact, record_exact, choices_exact
 
 check_exact : (g : Given) → IsExact (check.request g)
 check_exact g = (file_exact g.file, λ v. tt)
+
+compile_exact : (g : Given) → IsExact (compile.request g)
+compile_exact g = (file_exact g.file, λ v. tt)
 
 with_choices_exact : (name : Option Text) (next : List Choice → Request) → ((cs : List Choice) → IsExact (next cs)) → IsExact (with_choices name next)
 with_choices_exact None next h = h []
@@ -31,7 +35,10 @@ run_exact g =
     )))
 
 asked_exact : (g : Given) → IsExact (asked g)
-asked_exact g = asked_by_exact check g (asked_by run g no_command) (check_exact g) (asked_by_exact run g no_command (run_exact g) tt)
+asked_exact g =
+    asked_by_exact check g (asked_by compile g (asked_by run g no_command)) (check_exact g)
+    (asked_by_exact compile g (asked_by run g no_command) (compile_exact g)
+    (asked_by_exact run g no_command (run_exact g) tt))
 
 pub request_exact : (words : List (List ℕ)) → IsExact (request_of words)
 unfolding request_of

@@ -8,3 +8,4 @@ pub mod InputFacts
 pub mod RunFacts
 pub mod RunLaws
 pub mod WordFacts
+pub mod Priorities

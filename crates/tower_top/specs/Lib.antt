@@ -1,5 +1,6 @@
 pub mod Calls
 pub mod Check
+pub mod Compile
 pub mod ChoicesInput
 pub mod Commands
 pub mod Endings

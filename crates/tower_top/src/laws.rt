@@ -1,5 +1,5 @@
 //! What holds of every call. Each law is the contract of a function that does nothing.
-ghost use Rattle.tower_top.specs.Laws.{OneAnswer, DueComes, AnswersAreDue};
+ghost use Rattle.tower_top.specs.Laws.{OneAnswer, DueComes, AnswersAreDue, ListingsAreSound};
 ghost use Rattle.tower_top.specs.RunLaws.{EnoughIsDone, DoneComes};
 
 /// Where the shelf tells the texts that are to be read, at most one status is due, with its texts.
@@ -24,4 +24,10 @@ pub fn answers_are_due()
 pub fn enough_is_done()
     ensures due { EnoughIsDone }
     ensures comes { DoneComes }
+{}
+
+/// What `compile` writes of an accepted file is the listing of one program and of no other, and that program is sound: in
+/// every run over every event record that fits, whatever order of turns, it does what the handlers say.
+pub fn listings_are_sound()
+    ensures { ListingsAreSound }
 {}

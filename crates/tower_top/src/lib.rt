@@ -3,6 +3,7 @@
 
 mod check;
 mod choices;
+mod compile;
 mod events;
 mod fetched;
 mod file;
@@ -11,6 +12,7 @@ mod run;
 mod status;
 mod top;
 mod usage;
+mod whole;
 mod words;
 
 pub use status::Status;

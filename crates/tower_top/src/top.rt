@@ -6,6 +6,7 @@ ghost use Rattle.tower_top.specs.Top.{asked, request_of};
 ghost use Rattle.tower_top.specs.Words.{given_of};
 
 use crate::check::check;
+use crate::compile::compile;
 use crate::run::run;
 use crate::status::Status;
 use crate::usage::usage;
@@ -30,6 +31,9 @@ fn carry_out<F: Shelf, O: Sink, E: Sink>(
     if given.command == "check" {
         return check(alloc, given, shelf, out, err);
     }
+    if given.command == "compile" {
+        return compile(alloc, given, shelf, out, err);
+    }
     if given.command == "run" {
         return run(alloc, given, shelf, out, err);
     }
@@ -39,8 +43,9 @@ fn carry_out<F: Shelf, O: Sink, E: Sink>(
 /// Carries out what the words ask for. The first word is the program's name. The inputs come from the shelf, the text
 /// goes to `out`, and the one line that tells of a fault to `err`.
 ///
-/// `check FILE` tells what an accepted file has and what it weighs. `run FILE --record NAME` runs its program over a
-/// record, by the choices of `--choices NAME` where they are given, for at most as many instructions as `--steps N` says.
+/// `check FILE` tells what an accepted file has and what it weighs. `compile FILE` writes the listing of its program.
+/// `run FILE --record NAME` runs that program over a record, by the choices of `--choices NAME` where they are given, for
+/// at most as many instructions as `--steps N` says.
 /// After `WriteFault` a first part of what was due was written on each sink. After `Done`, `Stopped` and `No` the
 /// command's text was written whole on `out`; after any other answer nothing was written there, and after `NoMemory`
 /// nothing at all.

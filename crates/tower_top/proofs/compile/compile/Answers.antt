@@ -1,0 +1,31 @@
+use Rattle.std.proofs.Common.{◌≡◌, Bool, true, false, refl, sym, ◌∙◌, List, ℕ, subst}
+use Rattle.tower_report.specs.Puts.{Puts}
+use Rattle.tower_top.specs.Calls.{still, shelf_change, sink_change}
+use Rattle.tower_top.specs.Compile as command
+use Rattle.tower_top.specs.Requests.{no_command}
+use Rattle.tower_top.specs.Words.{given_of, has_only, no_options}
+use Rattle.tower_top.proofs.Endings.{answered, chosen, not_chosen, stopped_at, went_on, lacks_memory}
+use Rattle.tower_top.proofs.compile.compile.Goals as goal
+
+pub returns-then-not-has_only : goal.returns-then-not-has_only
+returns-then-not-has_only g c =
+    let has : has_only no_options (given_of c.args.given.now) ≡ false = cc in
+    not_chosen (command.compile.request (given_of c.args.given.now)) no_command _ has (c.usage.ensures _ _)
+
+pub returns-in-Err : goal.returns-in-Err
+returns-in-Err g c =
+    let has : has_only no_options (given_of c.args.given.now) ≡ true = cc in
+    chosen (command.compile.request (given_of c.args.given.now)) no_command _ has
+    (stopped_at (record { written = g.O.Sink.written c.args.out.now; faults = g.O.Sink.faults c.args.out.now }) c.in-Err.ensures)
+
+pub returns-in-Ok : goal.returns-in-Ok
+returns-in-Ok g c =
+    let has : has_only no_options (given_of c.args.given.now) ≡ true = cc in
+    let shelf = shelf_change g.F.Shelf.held g.F.Shelf.blamed g.F.Shelf.faults c.args.shelf.now c.read_file.new.shelf in
+    let out = sink_change g.O.Sink.written g.O.Sink.faults c.args.out.now c.put_whole.new.out in
+    let err = sink_change g.E.Sink.written g.E.Sink.faults c.args.err.now c.read_file.new.err in
+    let h = c.in-Ok.ensures in
+    ?
+
+pub returns-in-Err-listing_of : goal.returns-in-Err-listing_of
+returns-in-Err-listing_of g c = ?
