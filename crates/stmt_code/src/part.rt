@@ -6,16 +6,18 @@ ghost use Rattle.tower_types.specs.Records.{saturated};
 ghost use Rattle.tower_syntax.specs.Weights.{shape_at, root_shape};
 ghost use Rattle.channel_graph.specs.Site.{scope_at};
 ghost use Rattle.channel_graph.specs.Scoped.{part_shape};
+ghost use Rattle.stmt_code.specs.Layout.{field_offset};
 
+use crate::measured::Measured;
 use channel_graph::{Scope, part_type, type_words};
 use std::marker::Model;
-use tower_syntax::{Arch, PlaceStep, Root};
+use tower_syntax::{PlaceStep, Root};
 use tower_types::{NoMemory, Ty};
 
 /// A type of a system, or none where a place has no such part. Contracts see its shape.
 #[derive(Drop)]
 pub(crate) struct Part<'a> {
-    arch: &'a Arch,
+    arch: &'a Measured<'a>,
     ty: Option<&'a Ty>,
 }
 
@@ -48,19 +50,19 @@ pub(crate) fn counted(weight: u64) -> Result<u32, NoMemory>
 
 impl<'a> Part<'a> {
     /// What a place begins at.
-    pub(crate) fn root(scope: &Scope<'a>, root: Root) -> Part<'a>
+    pub(crate) fn root(arch: &'a Measured<'a>, scope: &Scope<'a>, root: Root) -> Part<'a>
+        requires { scope.now.arch ≡ arch.now }
         ensures { result ≡ root_shape (scope_at scope.now) root }
     {
-        let arch = scope.arch();
         let ty = scope.root_type(root);
         Part { arch, ty }
     }
 
     /// The messages on an emitter of the handler.
-    pub(crate) fn message(scope: &Scope<'a>, k: u32) -> Part<'a>
+    pub(crate) fn message(arch: &'a Measured<'a>, scope: &Scope<'a>, k: u32) -> Part<'a>
+        requires { scope.now.arch ≡ arch.now }
         ensures { result ≡ shape_at (scope_at scope.now).emitters k }
     {
-        let arch = scope.arch();
         let ty = scope.emitter_type(k);
         Part { arch, ty }
     }
@@ -71,7 +73,7 @@ impl<'a> Part<'a> {
     {
         let arch = self.arch;
         let ty = match self.ty {
-            Some(whole) => part_type(arch, whole, step),
+            Some(whole) => part_type(arch.arch(), whole, step),
             None => None,
         };
         Part { arch, ty }
@@ -82,8 +84,18 @@ impl<'a> Part<'a> {
         ensures { IfOk result (λ n. n ≡ words self.now) }
     {
         match self.ty {
-            Some(ty) => counted(type_words(self.arch, ty)),
+            Some(ty) => counted(type_words(self.arch.arch(), ty)),
             None => Ok(0),
+        }
+    }
+    /// The words before field `k`.
+    pub(crate) fn field_start(&self, k: u32) -> u32
+        ensures { result ≡ field_offset k self.now }
+    {
+        match self.ty {
+            Some(Ty::Rec(r)) => self.arch.field_start(*r, k),
+            Some(Ty::Scalar(_)) | Some(Ty::Array(_, _)) => 0,
+            None => 0,
         }
     }
 }
