@@ -3,9 +3,10 @@ use Rattle.std.specs.Prelude.{◌≡◌, ◌<◌, ℕ, List, [], length, slice_i
 use Rattle.tower_types.specs.Ty.{Shape, rec, shape_of, table_of}
 use Rattle.tower_syntax.specs.Arch.{Arch}
 use Rattle.tower_syntax.specs.Weights.{field_shapes, states_of}
-use Rattle.channel_graph.specs.Site.{Site}
+use Rattle.channel_graph.specs.Site.{Site, scope_at}
 use Rattle.stmt_code.specs.Layout.{words_before, field_offset}
 use Rattle.stmt_code.specs.declared.measured.Starts.{Starts}
+use Rattle.stmt_code.specs.declared.measured.StartTable.{StartTable}
 
 -- where part k begins, or where the last ends
 abbrev pub start_at : Starts → ℕ → ℕ
@@ -27,13 +28,12 @@ pub record AreMonitorStarts (arch : Arch) (n : ℕ) (all : List Starts) : Type 0
   pub each : length all ≡ n
   pub has : (m : ℕ) → m < n → AreStarts (field_shapes (table_of arch.records) (states_of arch m)) (slice_index_or all m no_starts)
 
--- the lists are those of all records and of all monitors
-pub record IsMeasured (arch : Arch) (records monitors : List Starts) : Type 0 where
-  pub records_begin : AreRecordStarts arch (length arch.records) records
-  pub monitors_begin : AreMonitorStarts arch (length arch.monitors) monitors
+-- the table has all records and all monitors
+pub record IsTableOf (arch : Arch) (t : StartTable) : Type 0 where
+  pub records_begin : AreRecordStarts arch (length arch.records) t.records
+  pub monitors_begin : AreMonitorStarts arch (length arch.monitors) t.monitors
 
--- the callback is one of this system, and its handler works on this monitor
-pub record IsWithin (arch : Arch) (monitor : ℕ) (site : Site) : Type 0 where
-  pub same : site.arch ≡ arch
-  pub works_on : site.handler.monitor ≡ monitor
-  pub below : monitor < length arch.monitors
+-- where the fields of all records, and the states that a callback may name, begin
+pub record HasStarts (site : Site) (records : List Starts) (states : Starts) : Type 0 where
+  pub fields_begin : AreRecordStarts site.arch (length site.arch.records) records
+  pub states_begin : AreStarts (scope_at site).states states

@@ -10,7 +10,7 @@ ghost use Rattle.stmt_code.specs.Layout.{layout_of, binder_at, scratch_at, root_
 ghost use Rattle.stmt_code.specs.Body.{message_of};
 ghost use Rattle.stmt_code.specs.Seen.{base_of, message_seen};
 
-use crate::measured::Measured;
+use crate::measured::{Measured, Starts};
 use crate::moved::{Base, SentMessage};
 use crate::part::Part;
 use channel_graph::Scope;
@@ -22,8 +22,9 @@ use tower_types::NoMemory;
 /// A callback with its handler's frame. Contracts see where its names stand.
 #[derive(Drop)]
 pub(crate) struct Layout<'a> {
-    arch: &'a Measured<'a>,
     scope: Scope<'a>,
+    records: &'a [Starts],
+    states: &'a Starts,
     monitor: u32,
     param: u32,
     binders: &'a [u32],
@@ -41,7 +42,7 @@ impl<'a> Model for Layout<'a> {
     ghost coded = { coded_layout };
 
     ghost use Rattle.channel_graph.specs.Site.{scope_at};
-    ghost use Rattle.stmt_code.specs.Measured.{IsWithin};
+    ghost use Rattle.stmt_code.specs.Measured.{HasStarts};
 
     ghost view = { λ l. record {
       scope = scope_at l.scope;
@@ -53,13 +54,13 @@ impl<'a> Model for Layout<'a> {
       first_buffer = l.first_buffer;
     } };
 
-    ghost invariant = { λ l. IsWithin l.arch.now l.monitor l.scope };
+    ghost invariant = { λ l. HasStarts l.scope l.records.now l.states.now };
 }
 
 impl<'a> Layout<'a> {
     /// The callback `i` of a handler.
     pub(crate) fn new(
-        arch: &'a Measured<'a>,
+        arch: &Measured<'a>,
         h: &'a Handler,
         body: &'a Body,
         frame: &'a Frame,
@@ -73,8 +74,9 @@ impl<'a> Layout<'a> {
             None => &[],
         };
         Layout {
-            arch,
             scope: Scope::new(arch.arch(), h, body),
+            records: arch.records(),
+            states: arch.states(h.monitor),
             monitor: h.monitor,
             param: frame.param,
             binders,
@@ -113,7 +115,7 @@ impl<'a> Layout<'a> {
     pub(crate) fn root(&self, root: Root) -> Part<'a>
         ensures { result ≡ root_shape self.now.scope root }
     {
-        Part::root(self.arch, &self.scope, root)
+        Part::root(&self.scope, self.records, root)
     }
 
     /// The words of a name that the callback binds.
@@ -130,10 +132,7 @@ impl<'a> Layout<'a> {
         match root {
             Root::Param => Base::Private(self.param),
             Root::Binder(b) => Base::Private(self.binder(b)),
-            Root::State(k) => {
-                let start = self.arch.state_start(self.monitor, k);
-                Base::Monitor(self.monitor, start)
-            }
+            Root::State(k) => Base::Monitor(self.monitor, self.states.at(k)),
         }
     }
 
@@ -152,7 +151,7 @@ impl<'a> Layout<'a> {
         ensures { IfOk result (λ m. message_seen m ≡ message_of self.now k) }
     {
         let buffer = self.first_buffer.checked_add(k).ok_or(NoMemory)?;
-        let width = Part::message(self.arch, &self.scope, k).words()?;
+        let width = Part::message(&self.scope, self.records, k).words()?;
         Ok(SentMessage {
             scratch: self.scratch(k),
             buffer,

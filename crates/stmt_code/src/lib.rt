@@ -14,7 +14,7 @@ mod section;
 mod stmts;
 
 pub use framing::frame_of;
-pub use measured::Measured;
+pub use measured::{Measured, StartTable};
 pub use section::place_body;
 
 #[cfg(test)]

@@ -1,13 +1,12 @@
 //! Where each field of a record and each state of a monitor begins: summed once, and then looked up.
 
 ghost use Rattle.std.specs.Prelude.{◌≡◌, ◌<◌, ℕ, List, length, IfOk};
-ghost use Rattle.tower_types.specs.Ty.{rec, shape_of, table_of};
+ghost use Rattle.tower_types.specs.Ty.{table_of};
 ghost use Rattle.tower_types.specs.View.{fields_of};
 ghost use Rattle.tower_syntax.specs.Weights.{field_shapes, states_of};
 ghost use Rattle.tower_syntax.specs.WellNumbered.{AreNumberedFields};
 ghost use Rattle.arch_checks.specs.Offences.{IsAccepted};
-ghost use Rattle.stmt_code.specs.Layout.{field_offset, words_before};
-ghost use Rattle.stmt_code.specs.Measured.{start_at, AreStarts, AreRecordStarts, AreMonitorStarts};
+ghost use Rattle.stmt_code.specs.Measured.{start_at, AreStarts, AreRecordStarts, AreMonitorStarts, IsTableOf};
 
 use crate::framing::lay_names;
 use arch_checks::Checked;
@@ -19,14 +18,14 @@ use tower_types::{Name, NoMemory, Ty};
 
 /// Where parts begin that lie one behind the other, and where the last ends.
 #[derive(Debug, Drop)]
-struct Starts {
+pub(crate) struct Starts {
     starts: Items<u32>,
     end: u32,
 }
 
 impl Starts {
     /// The words before part `k`, or of all parts where there are no more.
-    fn at(&self, k: u32) -> u32
+    pub(crate) fn at(&self, k: u32) -> u32
         ensures { result ≡ start_at self.now k }
     {
         match self.starts.get(k as usize) {
@@ -36,27 +35,11 @@ impl Starts {
     }
 }
 
-/// A system with the words before each field of its records and each state of its monitors. Contracts see the system.
-#[derive(Drop)]
-pub struct Measured<'a> {
-    checked: &'a Checked,
+/// Where the fields of each record and the states of each monitor of a system begin.
+#[derive(Debug, Drop)]
+pub struct StartTable {
     records: Items<Starts>,
     monitors: Items<Starts>,
-}
-
-impl<'a> Model for Measured<'a> {
-    ghost use Rattle.tower_syntax.specs.Arch.{Arch};
-    ghost use Rattle.tower_syntax.specs.Codes.{coded_arch};
-
-    ghost Value = { Arch };
-
-    ghost coded = { coded_arch };
-
-    ghost use Rattle.stmt_code.specs.Measured.{IsMeasured};
-
-    ghost view = { λ m. m.checked.now };
-
-    ghost invariant = { λ m. IsMeasured m.checked.now m.records m.monitors };
 }
 
 /// Where each of the fields begins.
@@ -95,19 +78,47 @@ fn monitor_starts(alloc: Global, arch: &Arch) -> Result<Items<Starts>, NoMemory>
     Ok(all)
 }
 
-impl<'a> Measured<'a> {
-    /// The system, with its records and monitors measured. A number of words that is no `u32` is told as want of memory.
-    pub fn new(alloc: Global, checked: &'a Checked) -> Result<Measured<'a>, NoMemory>
-        ensures { IfOk result (λ m. m ≡ checked.now) }
+impl StartTable {
+    /// The table of a system. A number of words that is no `u32` is told as want of memory.
+    pub fn new(alloc: Global, checked: &Checked) -> Result<StartTable, NoMemory>
+        ensures { IfOk result (λ t. IsTableOf checked.now t) }
     {
         let arch = checked.arch();
         let records = record_starts(alloc, arch)?;
         let monitors = monitor_starts(alloc, arch)?;
-        Ok(Measured {
-            checked,
-            records,
-            monitors,
-        })
+        Ok(StartTable { records, monitors })
+    }
+}
+
+/// A system that was accepted, with the table of where its fields and states begin. Contracts see the system.
+#[derive(Drop)]
+pub struct Measured<'a> {
+    checked: &'a Checked,
+    table: &'a StartTable,
+}
+
+impl<'a> Model for Measured<'a> {
+    ghost use Rattle.tower_syntax.specs.Arch.{Arch};
+    ghost use Rattle.tower_syntax.specs.Codes.{coded_arch};
+
+    ghost Value = { Arch };
+
+    ghost coded = { coded_arch };
+
+    ghost use Rattle.stmt_code.specs.Measured.{IsTableOf};
+
+    ghost view = { λ m. m.checked.now };
+
+    ghost invariant = { λ m. IsTableOf m.checked.now m.table.now };
+}
+
+impl<'a> Measured<'a> {
+    /// The system with its table.
+    pub fn new(checked: &'a Checked, table: &'a StartTable) -> Measured<'a>
+        requires { IsTableOf checked.now table.now }
+        ensures { result ≡ checked.now }
+    {
+        Measured { checked, table }
     }
 
     /// The system as it was accepted.
@@ -125,19 +136,18 @@ impl<'a> Measured<'a> {
         self.checked.arch()
     }
 
-    /// The words before field `k` of record `r`.
-    pub(crate) fn field_start(&self, r: u32, k: u32) -> u32
-        requires { r < length self.now.records }
-        ensures { result ≡ field_offset k (shape_of self.now.records (rec r)) }
+    /// For each record, where its fields begin.
+    pub(crate) fn records(&self) -> &'a [Starts]
+        ensures { AreRecordStarts self.now (length self.now.records) result.now }
     {
-        self.records.as_slice()[r as usize].at(k)
+        self.table.records.as_slice()
     }
 
-    /// The words before state `k` of monitor `m`.
-    pub(crate) fn state_start(&self, m: u32, k: u32) -> u32
+    /// Where the states of monitor `m` begin.
+    pub(crate) fn states(&self, m: u32) -> &'a Starts
         requires { m < length self.now.monitors }
-        ensures { result ≡ words_before (field_shapes (table_of self.now.records) (states_of self.now m)) k }
+        ensures { AreStarts (field_shapes (table_of self.now.records) (states_of self.now m)) result.now }
     {
-        self.monitors.as_slice()[m as usize].at(k)
+        &self.table.monitors.as_slice()[m as usize]
     }
 }

@@ -29,10 +29,10 @@ fn add_cleared(code: &mut Code, first: u32, n: u32) -> Result<(), NoMemory>
 }
 
 /// Adds the instructions of a handler's callbacks, or some of them.
-fn add_bodies(
-    arch: &Measured<'_>,
-    h: &Handler,
-    frame: &Frame,
+fn add_bodies<'a>(
+    arch: &Measured<'a>,
+    h: &'a Handler,
+    frame: &'a Frame,
     code: &mut Code,
 ) -> Result<(), NoMemory>
     requires { IsNumberedHandler arch.now (handler_of h.now) }
@@ -49,10 +49,10 @@ fn add_bodies(
 }
 
 /// Adds the instructions of a handler's section, or some of them.
-fn add_section(
-    arch: &Measured<'_>,
-    h: &Handler,
-    frame: &Frame,
+fn add_section<'a>(
+    arch: &Measured<'a>,
+    h: &'a Handler,
+    frame: &'a Frame,
     code: &mut Code,
 ) -> Result<(), NoMemory>
     requires { IsNumberedHandler arch.now (handler_of h.now) }
@@ -69,10 +69,10 @@ fn add_section(
 
 /// Adds the code of handler `handler` from its LOCK to its UNLOCK, whose words and buffers are those of `frame`. An
 /// address that is no `u32` is told as want of memory.
-pub fn place_body(
-    arch: &Measured<'_>,
+pub fn place_body<'a>(
+    arch: &Measured<'a>,
     handler: u32,
-    frame: &Frame,
+    frame: &'a Frame,
     code: &mut Code,
 ) -> Result<(), NoMemory>
     requires { handler < length arch.now.handlers }

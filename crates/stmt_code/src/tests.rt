@@ -1,4 +1,4 @@
-use crate::{Measured, frame_of, place_body};
+use crate::{Measured, StartTable, frame_of, place_body};
 use arch_checks::check;
 use std::alloc::Global;
 use std::test::Fail;
@@ -11,7 +11,8 @@ fn has_section(alloc: Global, text: &[u8], wanted: &[Instr]) -> Result<bool, Fai
     if checked.arch().handlers().is_empty() {
         return Ok(false);
     }
-    let measured = Measured::new(alloc, &checked)?;
+    let table = StartTable::new(alloc, &checked)?;
+    let measured = Measured::new(&checked, &table);
     let frame = frame_of(alloc, &measured, 0, 0, 0)?;
     let mut code = Code::new(alloc);
     place_body(&measured, 0, &frame, &mut code)?;

@@ -1,12 +1,18 @@
 -- The entries of a task in the program of a system, and where its code stands.
-use Rattle.std.specs.Prelude.{ℕ, List}
+use Rattle.std.specs.Prelude.{◌≡◌, ℕ, ◌+◌, ◌≤◌, List, length, Contains}
 use Rattle.tower_syntax.specs.declared.arch.On.TheVariants as on
+use Rattle.tower_syntax.specs.declared.arch.Listener.TheVariants as to
 use Rattle.tower_syntax.specs.Arch.{Arch}
-use Rattle.tower_syntax.specs.Graph.{subs, reached_by}
+use Rattle.tower_syntax.specs.Graph.{handler, subs, Reaches, reached_by}
 use Rattle.tower_syntax.specs.Weights.{message_words}
-use Rattle.task_code.specs.Piece.{end}
+use Rattle.task_code.specs.declared.program.Task.{Task}
+use Rattle.task_code.specs.Program.{Program}
+use Rattle.task_code.specs.Piece.{end, Stands}
+use Rattle.task_alone.specs.SettingOf.{first_buffer}
+use Rattle.stmt_code.specs.FrameOf.{frame_of}
 use Rattle.emit_code.specs.Delivery.{Entry}
-use Rattle.task_build.specs.CodeOf.{frames_from, head_code, taken_at, entries_from, unplaced}
+use Rattle.emit_code.specs.Entries.{frame_in, place_in, IsFramed}
+use Rattle.task_build.specs.CodeOf.{frames_from, handler_code, head_code, taken_at, entries_from, unplaced}
 
 -- the handlers that source x reaches, with their frames and no places yet
 abbrev pub known_of : Arch → ℕ → List Entry
