@@ -1,4 +1,5 @@
-"""Files of at most 1,048,576 bytes: an ordinary one, and those that are hardest for a stage of the check."""
+"""Files of at most 1,048,576 bytes: an ordinary one, those that are hardest for a stage of the check, and those whose
+program is large, or hard to build."""
 
 LIMIT = 1_048_576
 
@@ -201,6 +202,48 @@ def crowd():
     links = (f"(handler k{n} s " + "".join(f"(emitter e{i} c 1)" for i in range(20)) + "(callback v))" for n in range(2095))
     return filled(front, links, "))")
 
+
+# ---- programs: accepted files with a code weight of 500,000 and more
+
+def states():
+    """A monitor of 20,000 states, the last of which are set again and again."""
+    names = "".join(f"(state n{n} u8)" for n in range(20_000))
+    return body((f"(set n{19_990 + n % 10} v)" for n in range(25_000)), names)
+
+
+def last_fields():
+    """A record of as many fields as it may have, the last of which are set again and again."""
+    record = "(record r " + "".join(f"(field f{n} u8)" for n in range(4096)) + ")"
+    return body((f"(set (get x f{4086 + n % 10}) v)" for n in range(41_000)), "(state x r)", record)
+
+
+def half_a_million():
+    """Eight tasks with half a million instructions: each of the literals and sums is one, and weighs 2."""
+    e = "(u8 1)"
+    for _ in range(11):
+        e = f"(+ {e} {e})"
+    items = "(channel c u8)(monitor m (state x u8)"
+    items += f"(handler h c (callback v {f'(set x {e})' * 15})))"
+    items += "".join(f"(signal s{n} u8 1)" for n in range(8)) + "(monitor k "
+    items += "".join(f"(handler g{n} s{n} (emitter e c 1) (callback v (emit e v)))" for n in range(8)) + ")"
+    return f"(tower half {items})"
+
+
+def tasks():
+    """64 tasks, each with the same 120 handlers, of a system with 4,096 handlers and channels."""
+    items = "".join(f"(signal s{n} u8 1)" for n in range(64)) + "".join(f"(channel c{n} u8)" for n in range(4096))
+    items += "(monitor m " + "".join(f"(handler g{n} s{n} (emitter e c0 1) (callback v))" for n in range(64)) + ")"
+    items += "(monitor k " + "".join(f"(handler h{n} c{max(0, n - 119)} (callback v))" for n in range(4032)) + ")"
+    return f"(tower tasks {items})"
+
+
+PROGRAMS = {
+    "ordinary": ordinary,
+    "states": states,
+    "last fields": last_fields,
+    "half a million": half_a_million,
+    "tasks": tasks,
+}
 
 FILES = {
     "ordinary": ordinary,

@@ -31,6 +31,7 @@ pub mod Rows
 pub mod Steps
 pub mod Turned
 pub mod Offsets
+pub mod Begun
 pub mod Expressed
 pub mod Stated
 pub mod Sectioned

@@ -1,5 +1,6 @@
 pub mod FrameOf
 pub mod Layout
+pub mod Measured
 pub mod Body
 pub mod Section
 pub mod Codes

@@ -9,8 +9,8 @@ ghost use Rattle.tower_syntax.specs.WellNumbered.{AreNumberedFields};
 ghost use Rattle.stmt_code.specs.FrameOf.{laid, binder_words, binders_laid, frame_of};
 ghost use Rattle.stmt_code.specs.Sizes.{words_of_fields};
 
+use crate::measured::Measured;
 use crate::part::counted;
-use arch_checks::Checked;
 use channel_graph::{type_words, words_on};
 use sqlite_items::Items;
 use std::alloc::Global;
@@ -28,8 +28,8 @@ fn lay(end: &mut u32, weight: u64) -> Result<u32, NoMemory>
     Ok(start)
 }
 
-/// Lays out the names of a callback.
-fn lay_names(
+/// Lays out names.
+pub(crate) fn lay_names(
     alloc: Global,
     arch: &Arch,
     end: &mut u32,
@@ -92,7 +92,7 @@ fn lay_messages(
 /// are those of its message, of the names of its callbacks, three more, and those of a message of each emitter.
 pub fn frame_of(
     alloc: Global,
-    arch: &Checked,
+    arch: &Measured<'_>,
     handler: u32,
     base: u32,
     first_buffer: u32,

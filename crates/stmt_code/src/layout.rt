@@ -5,23 +5,26 @@ ghost use Rattle.tower_types.specs.Ty.{words};
 ghost use Rattle.tower_syntax.specs.Arch.{Arch as System, Handler as HandlerTree, Body as BodyTree};
 ghost use Rattle.tower_syntax.specs.View.{handler_of, body_of};
 ghost use Rattle.tower_syntax.specs.Weights.{shape_at, root_shape};
-ghost use Rattle.channel_graph.specs.Site.{Site};
-ghost use Rattle.stmt_code.specs.Layout.{layout_of, binder_at, scratch_at, words_before, root_base};
+ghost use Rattle.channel_graph.specs.Site.{Site, IsSite};
+ghost use Rattle.stmt_code.specs.Layout.{layout_of, binder_at, scratch_at, root_base};
 ghost use Rattle.stmt_code.specs.Body.{message_of};
 ghost use Rattle.stmt_code.specs.Seen.{base_of, message_seen};
 
+use crate::measured::{Measured, Starts};
 use crate::moved::{Base, SentMessage};
 use crate::part::Part;
 use channel_graph::Scope;
 use std::marker::Model;
 use task_code::Frame;
-use tower_syntax::Root;
+use tower_syntax::{Body, Handler, Root};
 use tower_types::NoMemory;
 
 /// A callback with its handler's frame. Contracts see where its names stand.
 #[derive(Drop)]
 pub(crate) struct Layout<'a> {
     scope: Scope<'a>,
+    records: &'a [Starts],
+    states: &'a Starts,
     monitor: u32,
     param: u32,
     binders: &'a [u32],
@@ -39,6 +42,7 @@ impl<'a> Model for Layout<'a> {
     ghost coded = { coded_layout };
 
     ghost use Rattle.channel_graph.specs.Site.{scope_at};
+    ghost use Rattle.stmt_code.specs.Measured.{HasStarts};
 
     ghost view = { λ l. record {
       scope = scope_at l.scope;
@@ -49,21 +53,31 @@ impl<'a> Model for Layout<'a> {
       scratch = l.scratch.now;
       first_buffer = l.first_buffer;
     } };
+
+    ghost invariant = { λ l. HasStarts l.scope l.records.now l.states.now };
 }
 
 impl<'a> Layout<'a> {
-    /// The callback `i` of a handler of that monitor.
-    pub(crate) fn new(scope: Scope<'a>, monitor: u32, frame: &'a Frame, i: usize) -> Layout<'a>
-        requires { monitor ≡ scope.handler.monitor }
-        ensures { result ≡ layout_of scope.entry.arch scope.entry.handler frame.now i scope.entry.body }
+    /// The callback `i` of a handler.
+    pub(crate) fn new(
+        arch: &Measured<'a>,
+        h: &'a Handler,
+        body: &'a Body,
+        frame: &'a Frame,
+        i: usize,
+    ) -> Layout<'a>
+        requires { let site : Site = record { arch = arch.now; handler = handler_of h.now; body = body_of body.now } in IsSite site }
+        ensures { result ≡ layout_of arch.now (handler_of h.now) frame.now i (body_of body.now) }
     {
         let binders = match frame.binders.as_slice().get(i) {
             Some(addresses) => addresses.as_slice(),
             None => &[],
         };
         Layout {
-            scope,
-            monitor,
+            scope: Scope::new(arch.arch(), h, body),
+            records: arch.records(),
+            states: arch.states(h.monitor),
+            monitor: h.monitor,
             param: frame.param,
             binders,
             temps: frame.temps,
@@ -101,7 +115,7 @@ impl<'a> Layout<'a> {
     pub(crate) fn root(&self, root: Root) -> Part<'a>
         ensures { result ≡ root_shape self.now.scope root }
     {
-        Part::root(&self.scope, root)
+        Part::root(&self.scope, self.records, root)
     }
 
     /// The words of a name that the callback binds.
@@ -111,30 +125,14 @@ impl<'a> Layout<'a> {
         self.root(Root::Binder(b)).words()
     }
 
-    /// The words of the monitor's first `k` states.
-    #[tactic(auto, using(crate::proofs::Offsets::words_before_more))]
-    fn state_words(&self, k: u32) -> Result<u32, NoMemory>
-        ensures { IfOk result (λ n. n ≡ words_before self.now.scope.states k) }
-    {
-        let mut total: u32 = 0;
-        for j in 0..k {
-            let more = self.root(Root::State(j)).words()?;
-            total = total.checked_add(more).ok_or(NoMemory)?;
-        }
-        Ok(total)
-    }
-
     /// The words that a place begins at.
-    pub(crate) fn base(&self, root: Root) -> Result<Base, NoMemory>
-        ensures { IfOk result (λ b. base_of b ≡ root_base self.now root) }
+    pub(crate) fn base(&self, root: Root) -> Base
+        ensures { base_of result ≡ root_base self.now root }
     {
         match root {
-            Root::Param => Ok(Base::Private(self.param)),
-            Root::Binder(b) => Ok(Base::Private(self.binder(b))),
-            Root::State(k) => {
-                let offset = self.state_words(k)?;
-                Ok(Base::Monitor(self.monitor, offset))
-            }
+            Root::Param => Base::Private(self.param),
+            Root::Binder(b) => Base::Private(self.binder(b)),
+            Root::State(k) => Base::Monitor(self.monitor, self.states.at(k)),
         }
     }
 
@@ -153,7 +151,7 @@ impl<'a> Layout<'a> {
         ensures { IfOk result (λ m. message_seen m ≡ message_of self.now k) }
     {
         let buffer = self.first_buffer.checked_add(k).ok_or(NoMemory)?;
-        let width = Part::message(&self.scope, k).words()?;
+        let width = Part::message(&self.scope, self.records, k).words()?;
         Ok(SentMessage {
             scratch: self.scratch(k),
             buffer,

@@ -6,6 +6,7 @@ mod exprs;
 mod framing;
 pub mod laws;
 mod layout;
+mod measured;
 mod moved;
 mod part;
 mod place;
@@ -13,6 +14,7 @@ mod section;
 mod stmts;
 
 pub use framing::frame_of;
+pub use measured::{Measured, StartTable};
 pub use section::place_body;
 
 #[cfg(test)]

@@ -7,7 +7,7 @@ ghost use Rattle.tower_types.specs.Ty.{words, Shape};
 ghost use Rattle.channel_graph.specs.Stepped.{step_of};
 ghost use Rattle.tower_syntax.specs.Weights.{place_shape};
 ghost use Rattle.channel_graph.specs.Scoped.{part_shape};
-ghost use Rattle.stmt_code.specs.Layout.{given_index, given_offset, is_moving, field_offset, fixed_offset};
+ghost use Rattle.stmt_code.specs.Layout.{given_index, given_offset, is_moving, fixed_offset};
 ghost use Rattle.stmt_code.specs.Body.{moved};
 ghost use Rattle.stmt_code.specs.Seen.{moved_of, step_moves};
 
@@ -45,25 +45,12 @@ fn given_offset(e: &Expr, width: u32) -> Result<u32, NoMemory>
     }
 }
 
-/// How many words the fields before field `k` have.
-#[tactic(auto, using(crate::proofs::Offsets::field_offset_more))]
-fn fields_before(whole: &Part<'_>, k: u32) -> Result<u32, NoMemory>
-    ensures { IfOk result (λ n. n ≡ field_offset k whole.now) }
-{
-    let mut total: u32 = 0;
-    for j in 0..k {
-        let more = whole.step(&PlaceStep::Field(j)).words()?;
-        total = total.checked_add(more).ok_or(NoMemory)?;
-    }
-    Ok(total)
-}
-
 /// What a step adds to the part of a place's offset that the text gives.
 fn step_offset(step: &PlaceStep, whole: &Part<'_>) -> Result<u32, NoMemory>
     ensures { IfOk result (λ n. (rest : Steps) → fixed_offset whole.now (step_of step.now rest) ≡ n + fixed_offset (part_shape step.now whole.now) rest) }
 {
     match step {
-        PlaceStep::Field(k) => fields_before(whole, *k),
+        PlaceStep::Field(k) => Ok(whole.field_start(*k)),
         PlaceStep::At(e) => {
             let width = whole.step(step).words()?;
             given_offset(e, width)
@@ -102,7 +89,7 @@ pub(crate) fn locate(layout: &Layout<'_>, p: &Place, index: u32) -> Result<Moved
         moving = moves_after(step, moving);
         part = part.step(step);
     }
-    let base = layout.base(p.root)?.plus(offset)?;
+    let base = layout.base(p.root).plus(offset)?;
     Ok(Moved {
         moving,
         base,

@@ -9,12 +9,11 @@ ghost use Rattle.task_code.specs.Piece.{listed};
 ghost use Rattle.stmt_code.specs.Section.{cleared, bodies_code, section_code};
 
 use crate::layout::Layout;
+use crate::measured::Measured;
 use crate::part::counted;
 use crate::stmts::add_stmts;
-use arch_checks::Checked;
-use channel_graph::Scope;
 use task_code::{Code, Frame, Instr};
-use tower_syntax::{Arch, Handler};
+use tower_syntax::Handler;
 use tower_types::NoMemory;
 
 /// Adds what empties `n` buffers from `first` on, or some of it.
@@ -30,7 +29,12 @@ fn add_cleared(code: &mut Code, first: u32, n: u32) -> Result<(), NoMemory>
 }
 
 /// Adds the instructions of a handler's callbacks, or some of them.
-fn add_bodies(arch: &Arch, h: &Handler, frame: &Frame, code: &mut Code) -> Result<(), NoMemory>
+fn add_bodies<'a>(
+    arch: &Measured<'a>,
+    h: &'a Handler,
+    frame: &'a Frame,
+    code: &mut Code,
+) -> Result<(), NoMemory>
     requires { IsNumberedHandler arch.now (handler_of h.now) }
     ensures ok { OnOk result (code.new ≡ code.old ++ listed (bodies_code arch.now (handler_of h.now) frame.now 0 (length code.old) (handler_of h.now).callbacks)) }
     ensures keeps { Keeps code.old code.new }
@@ -38,15 +42,19 @@ fn add_bodies(arch: &Arch, h: &Handler, frame: &Frame, code: &mut Code) -> Resul
     let bodies = h.callbacks.as_slice();
     for i in 0..bodies.len() {
         let body = &bodies[i];
-        let scope = Scope::new(arch, h, body);
-        let layout = Layout::new(scope, h.monitor, frame, i);
+        let layout = Layout::new(arch, h, body, frame, i);
         add_stmts(body.stmts.as_slice(), &layout, code)?;
     }
     Ok(())
 }
 
 /// Adds the instructions of a handler's section, or some of them.
-fn add_section(arch: &Arch, h: &Handler, frame: &Frame, code: &mut Code) -> Result<(), NoMemory>
+fn add_section<'a>(
+    arch: &Measured<'a>,
+    h: &'a Handler,
+    frame: &'a Frame,
+    code: &mut Code,
+) -> Result<(), NoMemory>
     requires { IsNumberedHandler arch.now (handler_of h.now) }
     ensures ok { OnOk result (code.new ≡ code.old ++ listed (section_code arch.now (handler_of h.now) frame.now (length code.old))) }
     ensures keeps { Keeps code.old code.new }
@@ -61,10 +69,10 @@ fn add_section(arch: &Arch, h: &Handler, frame: &Frame, code: &mut Code) -> Resu
 
 /// Adds the code of handler `handler` from its LOCK to its UNLOCK, whose words and buffers are those of `frame`. An
 /// address that is no `u32` is told as want of memory.
-pub fn place_body(
-    arch: &Checked,
+pub fn place_body<'a>(
+    arch: &Measured<'a>,
     handler: u32,
-    frame: &Frame,
+    frame: &'a Frame,
     code: &mut Code,
 ) -> Result<(), NoMemory>
     requires { handler < length arch.now.handlers }
@@ -72,8 +80,8 @@ pub fn place_body(
     ensures err { OnErr result (code.new ≡ code.old) }
 {
     let start = code.place();
-    let system = arch.arch();
-    match add_section(system, system.handler(handler), frame, code) {
+    let h = arch.arch().handler(handler);
+    match add_section(arch, h, frame, code) {
         Ok(()) => Ok(()),
         Err(fault) => {
             code.shorten(start);

@@ -1,4 +1,4 @@
-use crate::{frame_of, place_body};
+use crate::{Measured, StartTable, frame_of, place_body};
 use arch_checks::check;
 use std::alloc::Global;
 use std::test::Fail;
@@ -11,9 +11,11 @@ fn has_section(alloc: Global, text: &[u8], wanted: &[Instr]) -> Result<bool, Fai
     if checked.arch().handlers().is_empty() {
         return Ok(false);
     }
-    let frame = frame_of(alloc, &checked, 0, 0, 0)?;
+    let table = StartTable::new(alloc, &checked)?;
+    let measured = Measured::new(&checked, &table);
+    let frame = frame_of(alloc, &measured, 0, 0, 0)?;
     let mut code = Code::new(alloc);
-    place_body(&checked, 0, &frame, &mut code)?;
+    place_body(&measured, 0, &frame, &mut code)?;
     let instrs = code.instrs();
     Ok(instrs.as_slice() == wanted)
 }

@@ -14,20 +14,21 @@ use Rattle.arch_checks.specs.Laws.{IsSafe}
 use Rattle.arch_checks.proofs.Accepted.{safe}
 use Rattle.arch_checks.proofs.Facts.{walks_short}
 use Rattle.task_build.specs.CodeOf.{task_of, code_of}
-use Rattle.task_build.specs.TaskEntries.{entries_of}
-use Rattle.task_build.specs.Laws.{TasksAreFramed, EntriesCarry}
-use Rattle.task_build.proofs.Planned.{Planned}
+use Rattle.task_build.specs.TaskEntries.{entries_of, Planned}
+use Rattle.task_build.specs.Laws.{TasksArePlanned, EntriesCarry}
 use Rattle.task_build.proofs.Handled.{sections_run, entry_visits}
 use Rattle.task_build.proofs.Lone.{no_cycle, walk_to}
 use Rattle.task_build.proofs.Roots.{handler_in_memory}
-use Rattle.task_build.proofs.Coded.{planned}
+use Rattle.task_build.proofs.Coded.{planned, headed}
 use Rattle.task_build.proofs.Closing.{small_bounds}
 
 plan : (arch : Arch) → IsSafe arch → (x : ℕ) (source : Source) → Planned arch (code_of arch) (task_of arch x source) x (entries_of arch x)
 plan arch s x source = planned arch s.numbered.listeners x source (small_bounds arch s.numbers)
 
-pub are_framed : TasksAreFramed
-are_framed bs arch accepted x source there = (plan arch (safe bs arch accepted) x source).framed
+pub are_planned : TasksArePlanned
+are_planned bs arch accepted x source there =
+    let s : IsSafe arch = safe bs arch accepted in
+    (headed arch s.numbered.listeners x source, plan arch s x source)
 
 pub entries_carry : EntriesCarry
 entries_carry bs arch accepted x source there h r calls room =

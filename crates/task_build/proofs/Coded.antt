@@ -25,8 +25,8 @@ use Rattle.arch_checks.specs.declared.fault.What.TheVariants as what
 use Rattle.arch_checks.specs.Laws.{IsSafe}
 use Rattle.task_build.proofs.Handled.{sections_run}
 use Rattle.task_build.proofs.Roots.{handler_in_memory}
-use Rattle.task_build.proofs.Planned.{HasSmallBounds, Planned, Headed, IsDelivered}
-use Rattle.task_build.specs.TaskEntries.{known_of, taken_of, entries_of}
+use Rattle.task_build.proofs.Planned.{HasSmallBounds, IsDelivered}
+use Rattle.task_build.specs.TaskEntries.{known_of, taken_of, entries_of, Planned, Headed}
 use Rattle.emit_code.specs.Entries.{frame_in}
 use Rattle.task_build.proofs.Frames.{inner}
 use Rattle.emit_code.specs.Entries.{HasParts}

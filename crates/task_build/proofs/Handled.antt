@@ -36,7 +36,8 @@ use Rattle.emit_code.specs.Entries.{NoneComesBack, frame_in, place_in, InFrames,
 use Rattle.emit_code.specs.Delivering.{OfEntry}
 use Rattle.emit_code.proofs.Delivered.{wider, as_called, buffers_called, begins, delivery_visits}
 use Rattle.emit_code.proofs.Listed.{all_in}
-use Rattle.task_build.proofs.Planned.{Planned, Sent, SectionRuns}
+use Rattle.task_build.specs.TaskEntries.{Planned}
+use Rattle.task_build.proofs.Planned.{Sent, SectionRuns}
 
 -- what the law of sections says of a task's entries
 pub sections_run : (arch : Arch) (p : Program) (t : Task) (x : ℕ) (entries : List Entry) → Planned arch p t x entries → IsSafe arch → (h : ℕ) → Reaches arch x h → handler_memory arch (handler arch h) ≤ 1048576 → SectionRuns arch p t x entries h

@@ -25,6 +25,7 @@ use Rattle.task_code.specs.Leads.{Leads, at}
 use Rattle.task_code.proofs.Leads as steps
 use Rattle.task_code.specs.Piece.{Piece, nil, end, Stands, joined}
 use Rattle.emit_code.specs.Delivery.{Entry}
+use Rattle.task_build.specs.TaskEntries.{Planned, Headed}
 use Rattle.task_build.specs.CodeOf.{words_passed, passed, call_code}
 use Rattle.task_alone.specs.Alone.{Safe, first_state}
 use Rattle.task_alone.specs.Visits.{Visits}
@@ -36,7 +37,7 @@ use Rattle.channel_graph.proofs.Linked.{link_of}
 use Rattle.channel_graph.proofs.Members.{In, filter_has, contains_from_In, In-from_contains}
 use Rattle.task_code.specs.Formed.{HoldWords, IsFormedBuffer, IsFormed}
 use Rattle.emit_code.specs.Entries.{NoneComesBack, Behind, next, later, frame_in, place_in, Touched, Entered, HasParts}
-use Rattle.task_build.proofs.Planned.{Planned, SectionRuns, Headed, AtHead, AtTake}
+use Rattle.task_build.proofs.Planned.{SectionRuns, AtHead, AtTake}
 use Rattle.task_code.proofs.Lists.{set_same, set_other}
 use Rattle.task_code.proofs.Formed.{at_is, formed_like}
 use Rattle.emit_code.proofs.Listed.{in_map, all_in, same_on_channel}

@@ -1,4 +1,4 @@
--- How the code of a task is planned: where the code of each handler stands, and what its sections do.
+-- How the code of a task is planned: where it is between sections, and what these do.
 use Rattle.std.specs.Prelude.{◌≡◌, ◌^◌, ℕ, ◌+◌, ◌<◌, ◌≤◌, List, [], length, true, Some, None, slice_get, Contains}
 use Rattle.tower_types.specs.Value.{Value, flat}
 use Rattle.tower_syntax.specs.declared.arch.On.TheVariants as on
@@ -19,15 +19,7 @@ use Rattle.stmt_code.specs.FrameOf.{frame_of}
 use Rattle.stmt_code.specs.Section.{section_code}
 use Rattle.emit_code.specs.Delivery.{Entry}
 use Rattle.emit_code.specs.Entries.{frame_in, place_in, InOwn, OwnBuffers, IsFramed, Entered}
-use Rattle.task_build.specs.CodeOf.{handler_code, head_code}
-
--- what is known of a task's entries before any run
-pub record Planned (arch : Arch) (p : Program) (t : Task) (x : ℕ) (entries : List Entry) : Type 0 where
-  pub stands : (h : ℕ) → Reaches arch x h → Stands t.code (place_in entries h) (handler_code arch entries h (frame_in entries h) (place_in entries h))
-  pub frame : (h : ℕ) → Reaches arch x h → frame_in entries h ≡ frame_of arch h (frame_in entries h).param (frame_in entries h).first_buffer
-  pub first : (h : ℕ) → Reaches arch x h → (frame_in entries h).first_buffer ≡ first_buffer arch (reached_by arch x) h
-  pub has_buffers : (h : ℕ) → Reaches arch x h → (frame_in entries h).first_buffer + length (handler arch h).emitters ≤ length t.buffers
-  pub framed : IsFramed arch p t x entries
+use Rattle.task_build.specs.TaskEntries.{Planned, Headed}
 
 -- behind the UNLOCK of h: what its effect sent is in its buffers, and only its frame, but for the message, and its buffers have changed
 pub record Sent (arch : Arch) (t : Task) (x : ℕ) (entries : List Entry) (h : ℕ) (message v : Value) (u o : Own) : Type 0 where
@@ -45,13 +37,6 @@ abbrev pub SectionRuns : Arch → Program → Task → ℕ → List Entry → �
 SectionRuns arch p t x entries h =
     (v : Value) → fits_item arch (to.Handler h, v) ≡ true → (u : Own) → Entered t entries h v u
     → (most : ℕ) × (most + 3 ≤ section arch (handler arch h)) × Section (setting_of arch) p t x h v most u (λ w. Sent arch t x entries h v w u)
-
--- What is known of the head of a task. Where a handler is on the source, a message is taken into the frame of one of them.
-pub record Headed (arch : Arch) (t : Task) (x : ℕ) (entries : List Entry) : Type 0 where
-  pub taken : ℕ
-  pub stands : Stands t.code 0 (head_code arch entries x taken (message_words arch (on.Source x)))
-  pub room : taken + message_words arch (on.Source x) ≤ t.room
-  pub first : (k : ℕ) → Contains (subs arch (on.Source x)) (to.Handler k) → (g : ℕ) × Contains (subs arch (on.Source x)) (to.Handler g) × (taken ≡ (frame_in entries g).param)
 
 -- between two calls of the head
 pub record AtHead (t : Task) (taken : ℕ) (v : Value) (place : ℕ) (o : Own) : Type 0 where

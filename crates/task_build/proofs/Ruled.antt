@@ -37,8 +37,7 @@ use Rattle.arch_checks.specs.Laws.{IsSafe}
 use Rattle.arch_checks.specs.Offences.{IsAccepted}
 use Rattle.arch_checks.proofs.Accepted.{safe}
 use Rattle.emit_code.specs.Entries.{frame_in, place_in}
-use Rattle.task_build.proofs.Planned.{Planned, Headed}
-use Rattle.task_build.specs.TaskEntries.{known_of, taken_of, entries_of}
+use Rattle.task_build.specs.TaskEntries.{known_of, taken_of, entries_of, Planned, Headed}
 use Rattle.emit_code.proofs.Listed.{exists, same_on_channel, get_in}
 use Rattle.task_build.proofs.Frames.{inner}
 use Rattle.emit_code.specs.Entries.{HasParts}

@@ -10,9 +10,9 @@ use Rattle.task_code.specs.declared.program.Task.{Task}
 use Rattle.lock_reduction.specs.Shaped.{Shaped}
 use Rattle.lock_reduction.specs.Reduce.{Alone, Sound}
 use Rattle.arch_checks.specs.Offences.{IsAccepted}
-use Rattle.emit_code.specs.Entries.{Touched, TouchedBuffers, IsFramed, Carries}
+use Rattle.emit_code.specs.Entries.{Touched, TouchedBuffers, Carries}
 use Rattle.task_build.specs.CodeOf.{task_of, code_of}
-use Rattle.task_build.specs.TaskEntries.{entries_of}
+use Rattle.task_build.specs.TaskEntries.{entries_of, Headed, Planned}
 
 -- The headline: for each text that is accepted, the program of its system is sound. In every run over every event record
 -- that fits, whatever order of steps, the marks replay as the system's meaning says.
@@ -23,11 +23,12 @@ ProgramsAreSound = (bs : List ℕ) (arch : Arch) → IsAccepted bs arch → Soun
 abbrev pub ProgramsAreAlone : Type 0
 ProgramsAreAlone = (bs : List ℕ) (arch : Arch) → IsAccepted bs arch → Alone arch (code_of arch)
 
--- in each of its tasks the handlers that the source reaches have frames and buffers of their own
-abbrev pub TasksAreFramed : Type 0
-TasksAreFramed =
+-- in each of its tasks the head stands first, and the code of each handler that the source reaches at its entry, with a
+-- frame and buffers of its own
+abbrev pub TasksArePlanned : Type 0
+TasksArePlanned =
     (bs : List ℕ) (arch : Arch) → IsAccepted bs arch → (x : ℕ) (source : Source) → slice_get arch.sources x ≡ Some source
-    → IsFramed arch (code_of arch) (task_of arch x source) x (entries_of arch x)
+    → Headed arch (task_of arch x source) x (entries_of arch x) × Planned arch (code_of arch) (task_of arch x source) x (entries_of arch x)
 
 -- and each entry carries out its item, with all that follows, within the weight `deliver`, where 100 more calls have room
 abbrev pub EntriesCarry : Type 0

@@ -3,3 +3,4 @@ pub mod TaskEntries
 pub mod Laws
 pub mod WorkedPrograms
 pub mod Tables
+pub mod WorkedRuns

@@ -4,8 +4,31 @@ use Rattle.tower_types.specs.declared.scalar.Scalar.TheVariants.{U8, U32, U64}
 use Rattle.tower_types.specs.declared.scalar.BinOp.TheVariants.{Add, Mul, Less}
 use Rattle.tower_syntax.specs.Examples.{clock, order, dia}
 use Rattle.task_code.specs.declared.program.Instr.TheVariants.{Push, Ld, St, Ldm, Stm, Bin, Jmp, Jz, Call, Ret, Take, Lock, Unlock, Out, Bclr, Bput, Badd, Bget, Bcnt}
+use Rattle.task_code.specs.Program.{Program}
 use Rattle.lock_reduction.specs.Wrong.{tell}
 use Rattle.task_build.specs.CodeOf.{code_of}
+
+-- emitter by emitter: all that the first holds goes before what the second holds
+abbrev pub order_program : Program
+order_program = record {
+  monitors = 0 ∷ [];
+  outputs = 1 ∷ [];
+  tasks = record {
+    priority = 1;
+    message = 1;
+    room = 6;
+    buffers = record { width = 1; bound = 2 } ∷ record { width = 1; bound = 1 } ∷ [];
+    code = Take 0 ∷ Call 3 ∷ Jmp 0
+        ∷ Lock 0 ∷ Bclr 0 ∷ Bclr 1
+        ∷ Push (pos 1) ∷ St 4 ∷ Push (pos 0) ∷ Ld 4 ∷ Bput 0 ∷ Badd 0
+        ∷ Push (pos 2) ∷ St 5 ∷ Push (pos 0) ∷ Ld 5 ∷ Bput 1 ∷ Badd 1
+        ∷ Push (pos 3) ∷ St 4 ∷ Push (pos 0) ∷ Ld 4 ∷ Bput 0 ∷ Badd 0 ∷ Unlock 0
+        ∷ Push (pos 0) ∷ St 3 ∷ Ld 3 ∷ Bcnt 0 ∷ Bin Less U64 ∷ Jz 41
+        ∷ Ld 3 ∷ Push (pos 0) ∷ Bget 0 ∷ St 4 ∷ Out 0 4 ∷ Ld 3 ∷ Push (pos 1) ∷ Bin Add U64 ∷ St 3 ∷ Jmp 27
+        ∷ Push (pos 0) ∷ St 3 ∷ Ld 3 ∷ Bcnt 1 ∷ Bin Less U64 ∷ Jz 57
+        ∷ Ld 3 ∷ Push (pos 0) ∷ Bget 1 ∷ St 5 ∷ Out 0 5 ∷ Ld 3 ∷ Push (pos 1) ∷ Bin Add U64 ∷ St 3 ∷ Jmp 43 ∷ Ret ∷ [];
+  } ∷ [];
+}
 
 pub record WorkedPrograms : Type 0 where
   -- from TAKE back to TAKE the clock executes twelve instructions
@@ -38,26 +61,7 @@ pub record WorkedPrograms : Type 0 where
           ∷ Ld 3 ∷ Push (pos 1) ∷ Bin Add U64 ∷ St 3 ∷ Jmp 12 ∷ Ret ∷ [];
     } ∷ [];
   }
-  -- emitter by emitter: all that the first holds goes before what the second holds
-  pub order_is : code_of order ≡ record {
-    monitors = 0 ∷ [];
-    outputs = 1 ∷ [];
-    tasks = record {
-      priority = 1;
-      message = 1;
-      room = 6;
-      buffers = record { width = 1; bound = 2 } ∷ record { width = 1; bound = 1 } ∷ [];
-      code = Take 0 ∷ Call 3 ∷ Jmp 0
-          ∷ Lock 0 ∷ Bclr 0 ∷ Bclr 1
-          ∷ Push (pos 1) ∷ St 4 ∷ Push (pos 0) ∷ Ld 4 ∷ Bput 0 ∷ Badd 0
-          ∷ Push (pos 2) ∷ St 5 ∷ Push (pos 0) ∷ Ld 5 ∷ Bput 1 ∷ Badd 1
-          ∷ Push (pos 3) ∷ St 4 ∷ Push (pos 0) ∷ Ld 4 ∷ Bput 0 ∷ Badd 0 ∷ Unlock 0
-          ∷ Push (pos 0) ∷ St 3 ∷ Ld 3 ∷ Bcnt 0 ∷ Bin Less U64 ∷ Jz 41
-          ∷ Ld 3 ∷ Push (pos 0) ∷ Bget 0 ∷ St 4 ∷ Out 0 4 ∷ Ld 3 ∷ Push (pos 1) ∷ Bin Add U64 ∷ St 3 ∷ Jmp 27
-          ∷ Push (pos 0) ∷ St 3 ∷ Ld 3 ∷ Bcnt 1 ∷ Bin Less U64 ∷ Jz 57
-          ∷ Ld 3 ∷ Push (pos 0) ∷ Bget 1 ∷ St 5 ∷ Out 0 5 ∷ Ld 3 ∷ Push (pos 1) ∷ Bin Add U64 ∷ St 3 ∷ Jmp 43 ∷ Ret ∷ [];
-    } ∷ [];
-  }
+  pub order_is : code_of order ≡ order_program
   -- the message is copied to the frame of each subscriber, which is then called: it delivers what it sends before the next is called
   pub dia_is : code_of dia ≡ record {
     monitors = 0 ∷ [];

@@ -15,6 +15,7 @@ use arch_checks::Checked;
 use emit_code::channel_subscribers;
 use sqlite_items::Items;
 use std::alloc::Global;
+use stmt_code::{Measured, StartTable};
 use task_code::{Program, Task};
 use thread_split::{TaskPlan, split};
 use tower_syntax::Listener;
@@ -23,7 +24,7 @@ use tower_types::NoMemory;
 /// The task of each plan.
 fn tasks(
     alloc: Global,
-    arch: &Checked,
+    arch: &Measured<'_>,
     heard: &[Items<Listener>],
     plans: &[TaskPlan],
 ) -> Result<Items<Task>, NoMemory>
@@ -53,6 +54,8 @@ pub fn build(alloc: Global, arch: &Checked) -> Result<Program, NoMemory>
     let outputs = outputs(alloc, system)?;
     let heard = channel_subscribers(alloc, system)?;
     let plans = split(alloc, arch)?;
-    let tasks = tasks(alloc, arch, heard.as_slice(), plans.as_slice())?;
+    let table = StartTable::new(alloc, arch)?;
+    let measured = Measured::new(arch, &table);
+    let tasks = tasks(alloc, &measured, heard.as_slice(), plans.as_slice())?;
     Ok(Program::new(monitors, outputs, tasks))
 }

@@ -5,10 +5,9 @@ ghost use Rattle.emit_code.specs.Framed.{HasEntry};
 ghost use Rattle.task_build.specs.CodeOf.{frames_from, end_of};
 ghost use Rattle.task_build.specs.Tables.{entries_at, Agrees};
 
-use arch_checks::Checked;
 use sqlite_items::Items;
 use std::alloc::Global;
-use stmt_code::frame_of;
+use stmt_code::{Measured, frame_of};
 use task_code::{Frame, Frames};
 use tower_types::NoMemory;
 
@@ -25,7 +24,7 @@ fn behind(number: u32, count: usize) -> Result<u32, NoMemory>
 /// The frames of these handlers, one behind the other.
 pub(crate) fn frames(
     alloc: Global,
-    arch: &Checked,
+    arch: &Measured<'_>,
     handlers: &[u32],
 ) -> Result<Items<Frame>, NoMemory>
     requires { All (λ h. h < length arch.now.handlers) handlers.now }
@@ -71,7 +70,7 @@ fn blank(alloc: Global, n: usize) -> Result<Frames, NoMemory>
 /// The frames of these handlers with their places, by the handlers' numbers.
 pub(crate) fn table(
     alloc: Global,
-    arch: &Checked,
+    arch: &Measured<'_>,
     handlers: &[u32],
     places: &[u32],
 ) -> Result<Frames, NoMemory>

@@ -14,11 +14,10 @@ ghost use Rattle.task_build.specs.Tables.{placed_behind, code_behind};
 use crate::heads::add_head;
 use crate::sizes::all_buffers;
 use crate::tables::{frames, room, table};
-use arch_checks::Checked;
 use emit_code::{message_words, own_frame, place_delivery};
 use sqlite_items::Items;
 use std::alloc::Global;
-use stmt_code::place_body;
+use stmt_code::{Measured, place_body};
 use task_code::{Code, Frames, Instr, Task};
 use thread_split::TaskPlan;
 use tower_syntax::{Listener, On};
@@ -33,7 +32,7 @@ struct Written {
 
 /// Adds the code of a handler.
 fn add_handler(
-    arch: &Checked,
+    arch: &Measured<'_>,
     heard: &[Items<Listener>],
     h: u32,
     table: &Frames,
@@ -46,7 +45,7 @@ fn add_handler(
         arch.now (entries_in table.now) h (entry_of (entries_in table.now) h).frame (length code.old))) }
 {
     place_body(arch, h, own_frame(table, h), code)?;
-    place_delivery(arch, heard, h, table, code)?;
+    place_delivery(arch.checked(), heard, h, table, code)?;
     code.push(Instr::Ret)?;
     Ok(())
 }
@@ -54,7 +53,7 @@ fn add_handler(
 /// The code of the plan's task, where frames and places are those of the table.
 fn write_code(
     alloc: Global,
-    arch: &Checked,
+    arch: &Measured<'_>,
     heard: &[Items<Listener>],
     plan: &TaskPlan,
     table: &Frames,
@@ -81,7 +80,7 @@ fn write_code(
 /// The code of the plan's task. It is made once with no places yet, for the places, and once with these.
 fn code_of(
     alloc: Global,
-    arch: &Checked,
+    arch: &Measured<'_>,
     heard: &[Items<Listener>],
     plan: &TaskPlan,
 ) -> Result<Items<Instr>, NoMemory>
@@ -104,7 +103,7 @@ fn code_of(
 /// The task of the plan.
 pub(crate) fn task_of(
     alloc: Global,
-    arch: &Checked,
+    arch: &Measured<'_>,
     heard: &[Items<Listener>],
     plan: &TaskPlan,
 ) -> Result<Task, NoMemory>

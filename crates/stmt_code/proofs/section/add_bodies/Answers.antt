@@ -2,7 +2,6 @@ use Rattle.std.proofs.Common.{◌≡◌, ◌∙◌, ◌++◌, length, map, All, 
 use Rattle.tower_syntax.specs.View.{handler_of, body_of, all_stmts_of}
 use Rattle.tower_syntax.specs.WellNumbered.{IsNumberedBody}
 use Rattle.tower_syntax.specs.declared.body.Body.{Body as BodyValue}
-use Rattle.channel_graph.specs.Site.{Site}
 use Rattle.channel_graph.proofs.Sized.{each_view}
 use Rattle.task_code.specs.Piece.{listed}
 use Rattle.stmt_code.specs.Layout.{Layout, layout_of}
@@ -11,8 +10,8 @@ use Rattle.stmt_code.specs.Section.{bodies_code}
 use Rattle.stmt_code.proofs.Sectioned.{bodies_next, bodies_end}
 use Rattle.stmt_code.proofs.section.add_bodies.Goals as goal
 
-pub new-scope-requires : goal.new-scope-requires
-new-scope-requires c =
+pub new-layout-requires : goal.new-layout-requires
+new-layout-requires c =
     let arch = c.args.arch.now in
     let h = handler_of c.args.h.now in
     let bodies = c.as_slice-bodies.result.now in
@@ -27,7 +26,7 @@ loop-i-preserved c =
     let i = c.loop-i.i in
     let body = c.index-bodies-i.result in
     let code = c.loop-i.code in
-    let layout : c.new-layout.result ≡ layout_of arch h frame i (body_of body) = c.new-layout.ensures ∙ ap (λ (s : Site). layout_of s.arch s.handler frame i s.body) c.new-scope.ensures in
+    let layout : c.new-layout.result ≡ layout_of arch h frame i (body_of body) = c.new-layout.ensures in
     let made : c.add_stmts.new.code ≡ code ++ listed (stmts_code (layout_of arch h frame i (body_of body)) (length code) (all_stmts_of body.stmts)) =
     c.in_ok-add_stmts.ensures.ok ∙ ap (λ (w : Layout). code ++ listed (stmts_code w (length code) (all_stmts_of c.as_slice.result.now))) layout
     ∙ ap (λ ss. code ++ listed (stmts_code (layout_of arch h frame i (body_of body)) (length code) (all_stmts_of ss))) c.as_slice.ensures in (

@@ -19,6 +19,9 @@ outputs_in : (a b : Arch) (ns : List ℕ) → ns ≡ map (λ o. words (shape_in 
     → ns ≡ map (λ o. words (shape_in (table_of b.records) (channel_message b o.channel))) b.outputs
 outputs_in a b ns is same = is ∙ ap (λ (z : Arch). map (λ o. words (shape_in (table_of z.records) (channel_message z o.channel))) z.outputs) same
 
+measured_tasks : (a b : Arch) (tasks : List Task) → tasks ≡ tasks_from a 0 a.sources → a ≡ b → tasks ≡ tasks_from b 0 b.sources
+measured_tasks a b tasks is same = is ∙ ap (λ (z : Arch). tasks_from z 0 z.sources) same
+
 -- the program from its parts
 parts : (a b : Arch) (monitors outputs : List ℕ) (tasks : List Task) → monitors ≡ map (monitor_words a) a.monitors → outputs ≡ map (λ o. words (shape_in (table_of a.records) (channel_message a o.channel))) a.outputs → a ≡ b → tasks ≡ tasks_from b 0 b.sources
     → (p : Program) → p ≡ record { monitors = monitors; outputs = outputs; tasks = tasks } → p ≡ code_of b
@@ -31,27 +34,27 @@ pub new-requires : goal.new-requires
 new-requires c =
     let arch = c.args.arch.now in
     let whole : Program = record { monitors = c.in_ok-monitors.monitors; outputs = c.in_ok-outputs.outputs; tasks = c.in_ok-tasks.tasks } in
-    let is : whole ≡ code_of arch = parts c.arch-system.result.now arch c.in_ok-monitors.monitors c.in_ok-outputs.outputs c.in_ok-tasks.tasks c.in_ok-monitors.ensures c.in_ok-outputs.ensures c.arch-system.ensures.value c.in_ok-tasks.ensures whole (λ t. whole) in
+    let is : whole ≡ code_of arch = parts c.arch-system.result.now arch c.in_ok-monitors.monitors c.in_ok-outputs.outputs c.in_ok-tasks.tasks c.in_ok-monitors.ensures c.in_ok-outputs.ensures c.arch-system.ensures.value (measured_tasks c.new-measured.result c.args.arch.now c.in_ok-tasks.tasks c.in_ok-tasks.ensures c.new-measured.ensures) whole (λ t. whole) in
     subst KeepsRules (sym is) (rules_kept c.arch-system.ensures.accepted.0 arch c.arch-system.ensures.accepted.1)
 
 pub returns-clause-program : goal.returns-clause-program
 returns-clause-program c =
-    parts c.arch-system.result.now c.args.arch.now c.in_ok-monitors.monitors c.in_ok-outputs.outputs c.in_ok-tasks.tasks c.in_ok-monitors.ensures c.in_ok-outputs.ensures c.arch-system.ensures.value c.in_ok-tasks.ensures c.new.result c.new.ensures
+    parts c.arch-system.result.now c.args.arch.now c.in_ok-monitors.monitors c.in_ok-outputs.outputs c.in_ok-tasks.tasks c.in_ok-monitors.ensures c.in_ok-outputs.ensures c.arch-system.ensures.value (measured_tasks c.new-measured.result c.args.arch.now c.in_ok-tasks.tasks c.in_ok-tasks.ensures c.new-measured.ensures) c.new.result c.new.ensures
 
 pub returns-clause-sound : goal.returns-clause-sound
 returns-clause-sound c =
     let arch = c.args.arch.now in
-    let is = parts c.arch-system.result.now arch c.in_ok-monitors.monitors c.in_ok-outputs.outputs c.in_ok-tasks.tasks c.in_ok-monitors.ensures c.in_ok-outputs.ensures c.arch-system.ensures.value c.in_ok-tasks.ensures c.new.result c.new.ensures in
+    let is = parts c.arch-system.result.now arch c.in_ok-monitors.monitors c.in_ok-outputs.outputs c.in_ok-tasks.tasks c.in_ok-monitors.ensures c.in_ok-outputs.ensures c.arch-system.ensures.value (measured_tasks c.new-measured.result c.args.arch.now c.in_ok-tasks.tasks c.in_ok-tasks.ensures c.new-measured.ensures) c.new.result c.new.ensures in
     subst (Sound arch) (sym is) (sound c.arch-system.ensures.accepted.0 arch c.arch-system.ensures.accepted.1)
 
 pub returns-clause-words : goal.returns-clause-words
 returns-clause-words c =
     let arch = c.args.arch.now in
-    let is = parts c.arch-system.result.now arch c.in_ok-monitors.monitors c.in_ok-outputs.outputs c.in_ok-tasks.tasks c.in_ok-monitors.ensures c.in_ok-outputs.ensures c.arch-system.ensures.value c.in_ok-tasks.ensures c.new.result c.new.ensures in
+    let is = parts c.arch-system.result.now arch c.in_ok-monitors.monitors c.in_ok-outputs.outputs c.in_ok-tasks.tasks c.in_ok-monitors.ensures c.in_ok-outputs.ensures c.arch-system.ensures.value (measured_tasks c.new-measured.result c.args.arch.now c.in_ok-tasks.tasks c.in_ok-tasks.ensures c.new-measured.ensures) c.new.result c.new.ensures in
     subst (λ (p : Program). all_words p ≤ memory arch) (sym is) (sound c.arch-system.ensures.accepted.0 arch c.arch-system.ensures.accepted.1).shaped.memory
 
 pub returns-clause-instructions : goal.returns-clause-instructions
 returns-clause-instructions c =
     let arch = c.args.arch.now in
-    let is = parts c.arch-system.result.now arch c.in_ok-monitors.monitors c.in_ok-outputs.outputs c.in_ok-tasks.tasks c.in_ok-monitors.ensures c.in_ok-outputs.ensures c.arch-system.ensures.value c.in_ok-tasks.ensures c.new.result c.new.ensures in
+    let is = parts c.arch-system.result.now arch c.in_ok-monitors.monitors c.in_ok-outputs.outputs c.in_ok-tasks.tasks c.in_ok-monitors.ensures c.in_ok-outputs.ensures c.arch-system.ensures.value (measured_tasks c.new-measured.result c.args.arch.now c.in_ok-tasks.tasks c.in_ok-tasks.ensures c.new-measured.ensures) c.new.result c.new.ensures in
     subst (λ (p : Program). all_instructions p ≤ code arch) (sym is) (sound c.arch-system.ensures.accepted.0 arch c.arch-system.ensures.accepted.1).shaped.code
