@@ -1,0 +1,9 @@
+use Rattle.std.proofs.Common.{◌≡◌, drop, slice_get}
+use Rattle.std.specs.Prelude.{filter}
+use Rattle.task_code.specs.Policy.{places_from}
+use Rattle.task_policies.proofs.among.at_position.Given as goal
+
+abbrev pub invariant-loop-x : goal.invariant-loop-x
+invariant-loop-x g l =
+    slice_get (filter (g.T.Test.passes l.test) (places_from l.x (drop l.x l.given))) l.left
+    ≡ slice_get (filter (g.T.Test.passes l.test) (places_from 0 l.given)) l.position

@@ -1,0 +1,4 @@
+pub mod Rules
+pub mod Lawful
+pub mod Worked
+pub mod Sums
