@@ -1,5 +1,5 @@
 -- The text of a run spells its marks.
-use Rattle.std.proofs.Common.{◌≡◌, ◌≤◌, ℕ, List, length, Option, Some, subst, sym, arith}
+use Rattle.std.proofs.Common.{◌≤◌, ℕ, List, Option, Some, subst, sym, arith}
 use Rattle.tower_syntax.specs.declared.event.Choice.{Choice}
 use Rattle.tower_syntax.specs.declared.event.Mark.{Mark}
 use Rattle.tower_syntax.specs.Arch.{Arch, Events}
