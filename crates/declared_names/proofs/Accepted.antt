@@ -1,12 +1,11 @@
 -- An accepted file has names.
-use Rattle.std.proofs.Common.{◌≡◌, ◌≢◌, ℕ, List, map, ap, sym, ◌∙◌, subst}
+use Rattle.std.proofs.Common.{◌≡◌, ◌≢◌, List, ap, sym, ◌∙◌, subst}
 use Rattle.std.specs.List.{AllPairs}
 use Rattle.tower_syntax.specs.declared.named.Target.{Target}
 use Rattle.tower_syntax.specs.RawTree.{Id, Raw}
 use Rattle.tower_syntax.specs.Arch.{Arch, Handler}
 use Rattle.tower_syntax.specs.Words.{IsName}
 use Rattle.tower_syntax.specs.Printable.{IsPrintable, IsPrintableItem}
-use Rattle.tower_reader.specs.Spelled.{Spells}
 use Rattle.tower_reader.proofs.SpelledPrints.{spelled_is_printable}
 use Rattle.arch_names.specs.declared.fault.NameFault.{NameFault}
 use Rattle.arch_names.specs.Names.{find}

@@ -2,7 +2,6 @@
 use Rattle.std.proofs.Common.{◌≡◌, ◌≢◌, ◌<◌, ℕ, List, [], ◌∷◌, ◌++◌, map, Some, refl, sym, ap, ◌∙◌, arith}
 use Rattle.tower_syntax.specs.declared.named.Target.{Target}
 use Rattle.tower_syntax.specs.RawTree.{Id, RawItem, fields, init, period, signal, channel, output, monitor}
-use Rattle.arch_names.specs.declared.names.Declared.{Declared}
 use Rattle.arch_names.specs.declared.names.Thing.{Thing}
 use Rattle.arch_names.specs.Names.{Find}
 use Rattle.arch_names.specs.Sets as names
@@ -10,7 +9,7 @@ use Rattle.arch_names.specs.Site.{Site}
 use Rattle.arch_names.specs.Linked.{linked_item}
 use Rattle.arch_names.specs.Written.{in_type, in_item, IsBelow, AreAscending}
 use Rattle.arch_types.specs.Outline.{each, source_of}
-use Rattle.arch_types.proofs.Lists.{AllOf, all_both, all_more, zipped}
+use Rattle.arch_types.proofs.Lists.{AllOf, zipped}
 use Rattle.declared_names.proofs.Lists.{Pairwise, all_mapped}
 use Rattle.declared_names.proofs.Own.{source_id, IsOwn}
 

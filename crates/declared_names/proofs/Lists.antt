@@ -1,5 +1,5 @@
 -- What holds of each thing that the elements of a list give, and of each two things of a list.
-use Rattle.std.proofs.Common.{◌≡◌, ◌<◌, ℕ, zero, suc, List, [], ◌∷◌, ◌++◌, map, length, arith}
+use Rattle.std.proofs.Common.{zero, suc, List, [], ◌∷◌, map, arith}
 use Rattle.std.specs.List.{AllPairs}
 use Rattle.arch_types.specs.Outline.{each}
 use Rattle.arch_types.proofs.Lists.{AllOf, all_both, each_element}

@@ -1,10 +1,10 @@
 -- Where no name is declared twice, each source's name finds that source.
-use Rattle.std.proofs.Common.{◌≡◌, ℕ, eqb, cond, List, [], ◌∷◌, ◌++◌, Bool, true, false, Option, Some, None, Contains, is_some, refl, sym, ap, ◌∙◌, true≢false}
+use Rattle.std.proofs.Common.{◌≡◌, ℕ, eqb, cond, List, [], ◌∷◌, ◌++◌, Bool, true, false, Option, Some, None, is_some, refl, sym, ap, ◌∙◌, true≢false}
 use Rattle.std.specs.Option.{option_or}
 use Rattle.std.specs.Cmp.Lexicographic.{bytes_decides}
 use Rattle.std.proofs.lemmas.Bool.{eqb-true, eq-eqb}
 use Rattle.tower_types.specs.Ty.{Name}
-use Rattle.tower_syntax.specs.RawTree.{Id, RawItem, fields, init, period, signal, channel, output, monitor, Raw}
+use Rattle.tower_syntax.specs.RawTree.{Id, RawItem, init, period, signal, Raw}
 use Rattle.arch_names.specs.declared.names.Declared.{Declared}
 use Rattle.arch_names.specs.declared.names.Thing.{Thing}
 use Rattle.arch_names.specs.declared.names.Counts.{Counts}

@@ -1,7 +1,7 @@
 -- The names of a file that can be printed are names.
 use Rattle.std.proofs.Common.{ℕ, List, map, All}
 use Rattle.tower_syntax.specs.declared.named.Target.{Target}
-use Rattle.tower_syntax.specs.RawTree.{Id, Link, RawPart, state, handler, RawItem, fields, init, period, signal, channel, output, monitor}
+use Rattle.tower_syntax.specs.RawTree.{Id, RawPart, state, handler, RawItem, init, period, signal, channel, output, monitor}
 use Rattle.tower_syntax.specs.Words.{IsName}
 use Rattle.tower_syntax.specs.Printable.{IsPrintablePart, IsPrintableItem}
 use Rattle.arch_names.specs.declared.names.Thing.{Thing}

@@ -188,15 +188,34 @@ fn tell_long(rt: &HostRuntime, arch: &Checked) -> io::Result<()> {
     tell_bytes(rt, arch, "one_byte_more.order", b"\n")
 }
 
-fn main(rt: HostRuntime) -> io::Result<()> {
-    let mut shelf = FileShelf::new(&rt);
-    let system = bytes_of(rt.alloc(), &mut shelf, "small.tower").unwrap_or(Vec::new(rt.alloc()));
-    let list = bytes_of(rt.alloc(), &mut shelf, "list").unwrap_or(Vec::new(rt.alloc()));
-    let Ok(arch) = check(rt.alloc(), system.as_slice()) else {
-        return println!(&rt; "the system is refused");
+/// What is told of each text that the list names.
+fn tell_listed(
+    rt: &HostRuntime,
+    shelf: &mut FileShelf<HostRuntime>,
+    arch: &Checked,
+) -> io::Result<()> {
+    let Some(list) = bytes_of(rt.alloc(), shelf, "list") else {
+        return println!(rt; "the list is not read");
     };
     match str::from_utf8(list.as_slice()) {
-        Ok(list) => tell_each(&rt, &mut shelf, &arch, list),
-        Err(_) => println!(&rt; "the list is no text"),
+        Ok(list) => tell_each(rt, shelf, arch, list),
+        Err(_) => println!(rt; "the list is no text"),
+    }
+}
+
+/// The system that the records and orders are for.
+fn system(rt: &HostRuntime, shelf: &mut FileShelf<HostRuntime>) -> Option<Checked> {
+    let text = bytes_of(rt.alloc(), shelf, "small.tower")?;
+    match check(rt.alloc(), text.as_slice()) {
+        Ok(arch) => Some(arch),
+        Err(_) => None,
+    }
+}
+
+fn main(rt: HostRuntime) -> io::Result<()> {
+    let mut shelf = FileShelf::new(&rt);
+    match system(&rt, &mut shelf) {
+        Some(arch) => tell_listed(&rt, &mut shelf, &arch),
+        None => println!(&rt; "the system is refused"),
     }
 }

@@ -1,8 +1,7 @@
 -- The lines of outputs, and those at the end of a run, are passed over.
-use Rattle.std.proofs.Common.{◌≡◌, ◌<◌, ℕ, zero, suc, ℤ, List, [], ◌∷◌, ◌++◌, map, length, cond, Bool, true, false, ◌&&◌, Option, Some, None, refl, codes, decimal, All, slice_get, slice_index}
+use Rattle.std.proofs.Common.{◌≡◌, ℕ, zero, suc, ℤ, List, [], ◌∷◌, ◌++◌, map, length, Bool, true, false, ◌&&◌, Option, Some, None, refl, codes, decimal, All, slice_get, slice_index}
 use Rattle.std.specs.Prelude.{slice_index_or}
-use Rattle.std.specs.List.{zip, flat_map}
-use Rattle.tower_types.specs.Ty.{Name, Ty, Fields, shapes_of}
+use Rattle.tower_types.specs.Ty.{Name, Fields, shapes_of}
 use Rattle.tower_syntax.specs.Arch.{Arch, Source, Output, Monitor}
 use Rattle.tower_syntax.specs.Graph.{no_output, numbers_before}
 use Rattle.tower_syntax.specs.Weights.{states_of}
@@ -13,7 +12,7 @@ use Rattle.task_code.specs.Machine.{Machine, Lock}
 use Rattle.tower_report.specs.Bytes.{line}
 use Rattle.tower_report.specs.ValueText.{words_text, texts_of_words, shapes_in}
 use Rattle.tower_report.specs.MarkText.{output_name, output_shape, out_line}
-use Rattle.tower_report.specs.EndText.{monitor_name, state_line, state_lines, states_text, monitor_text, shown_by, monitors_text, lost_line, lost_text, losses_text, count_line, waits_text, last_line, end_text}
+use Rattle.tower_report.specs.EndText.{monitor_name, state_line, state_lines, monitor_text, shown_by, monitors_text, lost_line, lost_text, losses_text, count_line, waits_text, last_line, end_text}
 use Rattle.event_record.specs.Lines.{Bytes}
 use Rattle.declared_names.specs.Laws.{HasNames}
 use Rattle.run_order.proofs.Above.{above, are_above, both, and_true, word_above}

@@ -1,7 +1,7 @@
 -- A name is a word, and the name of a source finds it.
-use Rattle.std.proofs.Common.{◌≡◌, ◌≢◌, ◌⊎◌, inl, inr, ◌<◌, ℕ, zero, suc, ◌+◌, List, [], ◌∷◌, map, length, cond, not, Bool, true, false, ◌&&◌, ◌||◌, leb, nat_lt, nat_le, Option, Some, None, refl, ap, sym, ◌∙◌, arith, slice_index_or}
+use Rattle.std.proofs.Common.{◌≡◌, ◌≢◌, ◌⊎◌, inl, inr, ◌<◌, ℕ, zero, suc, ◌+◌, List, [], ◌∷◌, map, length, cond, not, Bool, true, false, ◌&&◌, ◌||◌, nat_lt, nat_le, Some, None, refl, ap, ◌∙◌, arith, slice_index_or}
 use Rattle.std.specs.Prelude.{bytes_eq}
-use Rattle.std.specs.List.{AllPairs, position, position_or_len}
+use Rattle.std.specs.List.{AllPairs, position_or_len}
 use Rattle.std.proofs.lemmas.Bool.{eqb-true, lt-ltb, leb-true}
 use Rattle.std.proofs.lemmas.Slice.Eq.{bytes_eq-Decides}
 use Rattle.tower_syntax.specs.Spelling.{is_lower, is_digit, is_underscore, goes_on, begins_with_letter, is_reserved, is_name}

@@ -1,27 +1,24 @@
 -- The line of a mark makes the mark, and that of an output is passed over.
-use Rattle.std.proofs.Common.{◌≡◌, ◌≢◌, ◌<◌, ◌≤◌, ℕ, ℤ, List, [], ◌∷◌, ◌++◌, length, Bool, true, false, ◌&&◌, ◌||◌, eqb, nat_lt, nat_le, Some, refl, ap, sym, ◌∙◌, subst, arith, codes, decimal, All}
-use Rattle.std.specs.Prelude.{bytes_eq, slice_index_or}
-use Rattle.std.specs.List.{AllPairs, flat_map}
-use Rattle.std.proofs.lemmas.Bool.{ne_eqb, leb-true, ltb-true, lt-ltb}
+use Rattle.std.proofs.Common.{◌≡◌, ◌<◌, ◌≤◌, ℕ, List, [], ◌∷◌, length, Bool, true, false, ◌&&◌, ◌||◌, eqb, nat_lt, nat_le, Some, refl, ap, sym, ◌∙◌, subst, arith, codes, decimal}
+use Rattle.std.specs.Prelude.{bytes_eq}
+use Rattle.std.specs.List.{flat_map}
+use Rattle.std.proofs.lemmas.Bool.{ne_eqb, leb-true, ltb-true}
 use Rattle.tower_syntax.specs.declared.event.Mark.{Mark}
 use Rattle.tower_syntax.specs.declared.event.Mark.TheVariants as mark
 use Rattle.tower_syntax.specs.Arch.{Arch}
-use Rattle.tower_syntax.specs.Words.{IsName}
 use Rattle.arch_checks.specs.Offences.{source_name}
 use Rattle.arch_types.proofs.Lists.{AllOf}
 use Rattle.tower_report.specs.Bytes.{spaced, line}
-use Rattle.tower_report.specs.MarkText.{IsMarkOf, mark_words, mark_line, output_name, output_shape, out_line}
-use Rattle.tower_report.specs.ValueText.{words_text}
-use Rattle.event_record.specs.Lines.{Bytes, words, begins_with}
+use Rattle.tower_report.specs.MarkText.{IsMarkOf, mark_line}
+use Rattle.event_record.specs.Lines.{Bytes, words}
 use Rattle.event_record.specs.Numbers.{is_digit, are_digits, IsWithin}
 use Rattle.event_record.specs.Order.{instruction_limit, is_among, begins_other_line, is_passed_over, state_lines, replay_lines, rule_lines, end_lines, Form, arrives, SpellsMark, a_arrives, s_starts, r_runs, o_puts, HasForm, numbered, MakesMarks, an_arrival, one_mark, source_named}
-use Rattle.declared_names.specs.Laws.{source_names, HasNames}
+use Rattle.declared_names.specs.Laws.{HasNames}
 use Rattle.run_order.proofs.Above.{above, is_word, are_above, both, and_true, or_false, spaced_above, word_above}
 use Rattle.run_order.proofs.Digits.{is_figure, decimal_is, decimal_word}
 use Rattle.run_order.proofs.Words.{are_words, words_are}
 use Rattle.run_order.proofs.Found.{name_is_word, length_names, source_found}
-use Rattle.run_order.proofs.Values.{words_above}
-use Rattle.run_order.proofs.Says.{Says, says_none, says_both, says_line, says_passed}
+use Rattle.run_order.proofs.Says.{Says, says_none, says_both, says_line}
 
 -- ---- a number begins no line that is passed over
 

@@ -1,10 +1,10 @@
 -- What the lines of a text make, whatever follows it.
-use Rattle.std.proofs.Common.{◌≡◌, ◌≤◌, ℕ, List, [], ◌∷◌, ◌++◌, length, cond, Bool, true, false, ◌||◌, refl, ap, sym, ◌∙◌, subst, append_assoc, append-nil, codes}
+use Rattle.std.proofs.Common.{◌≡◌, ◌≤◌, List, [], ◌∷◌, ◌++◌, length, cond, Bool, true, false, ◌||◌, ap, sym, ◌∙◌, subst, append_assoc, append-nil}
 use Rattle.std.specs.List.{flat_map}
 use Rattle.tower_syntax.specs.declared.event.Mark.{Mark}
 use Rattle.tower_syntax.specs.Arch.{Arch}
 use Rattle.tower_report.specs.Bytes.{spaced, line}
-use Rattle.event_record.specs.Lines.{Bytes, lines, words, begins_with}
+use Rattle.event_record.specs.Lines.{Bytes, lines, begins_with}
 use Rattle.event_record.specs.Format.{AllMake, no_lines, a_line, byte_limit}
 use Rattle.event_record.specs.Order.{begins_other_line, is_passed_over, MakesMarks, nothing, order_format, SpellsOrder}
 use Rattle.run_order.proofs.Above.{above, is_word, are_above, spaced_above}

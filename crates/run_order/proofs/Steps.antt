@@ -1,5 +1,5 @@
 -- The text of steps says the marks that they make.
-use Rattle.std.proofs.Common.{◌≡◌, ◌<◌, ◌≤◌, ℕ, suc, ◌+◌, List, [], ◌∷◌, ◌++◌, map, length, Option, Some, None, refl, sym, ap, ◌∙◌, subst, arith, append_assoc, append-nil, slice_get}
+use Rattle.std.proofs.Common.{◌≡◌, ◌<◌, ◌≤◌, ℕ, ◌+◌, List, [], ◌∷◌, ◌++◌, map, length, Option, Some, None, refl, sym, ap, ◌∙◌, arith, append_assoc, append-nil, slice_get}
 use Rattle.std.specs.List.{flat_map}
 use Rattle.std.proofs.lemmas.Option.{none-some, slice_get_within}
 use Rattle.tower_syntax.specs.declared.event.Mark.{Mark}
@@ -12,7 +12,7 @@ use Rattle.task_code.specs.Own.{Own}
 use Rattle.task_code.specs.Does.{Does, Stuck, Private, Takes, Locks, Unlocks, Writes}
 use Rattle.task_code.specs.Machine.{Machine, next_does, task_does}
 use Rattle.task_code.specs.Standing.{Standing, IsStuck, IsIdle, IsWaiting, IsReady, standing, standing_of}
-use Rattle.task_code.specs.Run.{Run, Step, Turn, Event, mark_of, written_by, turned, if_ready, came, step, steps_from}
+use Rattle.task_code.specs.Run.{Run, mark_of, written_by, turned, if_ready, came, step, steps_from}
 use Rattle.task_code.specs.Plan.{Planned, goes, comes, step_of, instructions}
 use Rattle.tower_report.specs.Bytes.{Bytes}
 use Rattle.tower_report.specs.MarkText.{IsMarkOf, mark_line, out_line}

@@ -1,5 +1,5 @@
 -- The texts of values have no LF.
-use Rattle.std.proofs.Common.{◌≡◌, ℕ, List, [], ◌∷◌, map, Bool, true, false, ℤ, pos, refl, take, drop}
+use Rattle.std.proofs.Common.{◌≡◌, List, map, Bool, true, false, ℤ, pos, refl, take, drop}
 use Rattle.std.specs.Prelude.{slice_index_or}
 use Rattle.tower_types.specs.declared.scalar.Scalar.{Scalar}
 use Rattle.tower_types.specs.declared.scalar.Scalar.TheVariants as scalar

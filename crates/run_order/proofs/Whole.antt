@@ -1,5 +1,5 @@
 -- The text of a run spells its marks.
-use Rattle.std.proofs.Common.{◌≡◌, ◌≤◌, ℕ, List, length, Option, Some, subst, sym, arith}
+use Rattle.std.proofs.Common.{◌≤◌, ℕ, List, Option, Some, subst, sym, arith}
 use Rattle.tower_syntax.specs.declared.event.Choice.{Choice}
 use Rattle.tower_syntax.specs.declared.event.Mark.{Mark}
 use Rattle.tower_syntax.specs.Arch.{Arch, Events}
@@ -21,7 +21,7 @@ use Rattle.run_order.proofs.Says.{Says, says_then, says_spells}
 use Rattle.run_order.proofs.Ends.{end_said}
 use Rattle.run_order.proofs.Steps.{steps_said}
 
-run_said : (arch : Arch) (p : Program) (events : Events) (choices : List Choice) (limit : ℕ) (given : Option Rule) → HasNames arch → HasFewTasks arch p → limit ≤ instruction_limit → Says arch (run_text arch p events choices limit given) (run_marks p events choices limit given)
+run_said : (arch : Arch) (p : Program) (events : Events) (choices : List Choice) (limit : ℕ) (given : Option Rule) → HasNames arch → HasFewTasks arch p → limit ≤ instruction_limit → Says arch (run_text arch p events choices limit given) (run_marks arch p events choices limit given)
 run_said arch p events choices limit given names few small =
     let policy = policy_of given p in
     let s = plan policy p events choices limit in
@@ -40,5 +40,5 @@ order_of arch text marks s =
 pub run_texts_are_orders : RunTextsAreOrders
 run_texts_are_orders bs arch p events choices limit given accepted few small short =
     let text = run_text arch p events choices limit given in
-    let marks = run_marks p events choices limit given in
+    let marks = run_marks arch p events choices limit given in
     order_of arch text marks (says_spells arch text marks (run_said arch p events choices limit given (accepted_has_names bs arch accepted) few small) short)

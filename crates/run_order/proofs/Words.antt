@@ -3,7 +3,7 @@ use Rattle.std.proofs.Common.{◌≡◌, ◌<◌, ℕ, List, [], ◌∷◌, ◌+
 use Rattle.std.proofs.lemmas.Bool.{ltb-true}
 use Rattle.tower_report.specs.Bytes.{spaced}
 use Rattle.event_record.specs.Lines.{Bytes, lines, line_led, led_by, words, word_led, is_blank, is_at_blank}
-use Rattle.run_order.proofs.Above.{above, is_word, both, and_true, other_byte}
+use Rattle.run_order.proofs.Above.{above, is_word, both, other_byte}
 
 -- a text without LF before one is a line
 pub line_ended : (t rest : Bytes) → above 10 t ≡ true → lines (t ++ 10 ∷ rest) ≡ t ∷ lines rest

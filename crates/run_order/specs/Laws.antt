@@ -14,8 +14,8 @@ use Rattle.event_record.specs.Format.{byte_limit, IsFirst}
 use Rattle.event_record.specs.Order.{instruction_limit, order_format, SpellsOrder}
 
 -- the marks of the run with these choices and at most so many instructions
-abbrev pub run_marks : Program → Events → List Choice → ℕ → Option Rule → List Mark
-run_marks p events choices limit given = (plan (policy_of given p) p events choices limit).run.marks
+abbrev pub run_marks : Arch → Program → Events → List Choice → ℕ → Option Rule → List Mark
+run_marks arch p events choices limit given = (plan (policy_of given p) p events choices limit).run.marks
 
 -- the text spells these marks and no others, and has no fault
 pub record IsOrderOf (arch : Arch) (text : Bytes) (marks : List Mark) : Type 0 where
@@ -27,7 +27,7 @@ pub record IsOrderOf (arch : Arch) (text : Bytes) (marks : List Mark) : Type 0 w
 abbrev pub RunTextIsOrder : Arch → Program → Events → List Choice → ℕ → Option Rule → Type 0
 RunTextIsOrder arch p events choices limit given =
     length (run_text arch p events choices limit given) ≤ byte_limit
-    → IsOrderOf arch (run_text arch p events choices limit given) (run_marks p events choices limit given)
+    → IsOrderOf arch (run_text arch p events choices limit given) (run_marks arch p events choices limit given)
 
 -- each task is that of a source
 abbrev pub HasFewTasks : Arch → Program → Type 0
