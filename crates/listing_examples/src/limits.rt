@@ -27,7 +27,9 @@ const BYTES: [usize; 2] = [67_108_864, 67_108_865];
 
 /// The listing of a task with so many instructions.
 fn long_listing(alloc: Global, count: usize) -> Result<Vec<u8>, AllocError> {
-    let head = format!(in alloc; "tower-listing 1\nmonitors 0\noutputs 0\ntasks 1\ntask 0 1 0 0 {count}\n")?;
+    let head = format!(in alloc;
+        "tower-listing 1\nmonitors 0\noutputs 0\ntasks 1\ntask 0 1 0 0 {count}\n"
+    )?;
     let mut text = Vec::from_slice(alloc, head.as_bytes())?;
     for _ in 0..count {
         text.extend_from_slice(b"RET\n")?;

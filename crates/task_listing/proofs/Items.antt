@@ -138,7 +138,9 @@ buffer_begins s ks n ls t h w =
     let e : numbers f.here ≡ m.0.0 ∷ m.0.1 ∷ [] = ap numbers c.2 ∙ numbers_back (codes "buffer") (m.0.0 ∷ m.0.1 ∷ []) small in
     let z : eqb m.0.0 0 ≡ false = ap (λ ns. is_zero (slice_get ns 0)) (sym e) ∙ f.kept in
     record {
-      item = record { width = m.0.0; bound = m.0.1 }; rest = f.rest; fits = ((some_positive m.0.0 z, c.0), c.1);
+      item = record { width = m.0.0; bound = m.0.1 };
+      rest = f.rest;
+      fits = ((some_positive m.0.0 z, c.0), c.1);
       same = f.same ∙ ap (λ ws. join_with_byte 32 ws ∷ f.rest) c.2;
     }
 
@@ -342,11 +344,21 @@ numbers_by : (here : List Bytes) (x : ℕ × ((ℕ × ℕ) × (ℕ × ℕ))) →
 numbers_by here (p, ((m, r), (b, c))) h kept =
     let l = task_line_is here p m r b c h in
     let e : numbers here ≡ p ∷ m ∷ r ∷ b ∷ c ∷ [] =
-        ap numbers l.same ∙ numbers_back (codes "task") (p ∷ m ∷ r ∷ b ∷ c ∷ []) (omega (arith, l.few_priority), (omega (arith, l.few_message), (omega (arith, l.few_room), (omega (arith, l.few_buffers), (omega (arith, l.few_code), tt))))) in
+    ap numbers l.same ∙ numbers_back (codes "task") (p ∷ m ∷ r ∷ b ∷ c ∷ []) (omega (arith, l.few_priority), (omega (arith, l.few_message), (omega (arith, l.few_room), (omega (arith, l.few_buffers), (omega (arith, l.few_code), tt))))) in
     let z : eqb m 0 ≡ false = ap (λ ns. is_zero (slice_get ns 1)) (sym e) ∙ kept in
     record {
-      p = p; m = m; r = r; b = b; c = c; few_priority = l.few_priority; some_message = some_positive m z; few_message = l.few_message; few_room = l.few_room;
-      few_buffers = l.few_buffers; few_code = l.few_code; same = l.same;
+      p = p;
+      m = m;
+      r = r;
+      b = b;
+      c = c;
+      few_priority = l.few_priority;
+      some_message = some_positive m z;
+      few_message = l.few_message;
+      few_room = l.few_room;
+      few_buffers = l.few_buffers;
+      few_code = l.few_code;
+      same = l.same;
     }
 
 -- a task of these parts
@@ -367,18 +379,22 @@ behind_first s ks n ls t h f x =
 task_by : (s : Known) (ls here rest : List Bytes) → ls ≡ join_with_byte 32 here ∷ rest → (x : Numbers here) (bs : Many buffer_lines (AllFit put_buffer FitsBuffer (start_of x s)) x.b rest)
     (cs : Many instr_lines (AllFit put_instr FitsInstr (puts put_buffer bs.items (start_of x s))) x.c bs.rest) → Begins task_lines (FitsTask s) ls
 task_by s ls here rest e x bs cs = record {
-    item = task_of x bs.items cs.items;
-    rest = cs.rest;
-    fits = record {
-      priority = x.few_priority; message = (x.some_message, x.few_message); room = x.few_room; few_buffers = omega (arith, bs.count, x.few_buffers); few_code = omega (arith, cs.count, x.few_code);
-      buffers = subst (λ s. AllFit put_buffer FitsBuffer s bs.items) start bs.fit;
-      code = subst (λ s. AllFit put_instr FitsInstr (puts put_buffer bs.items s) cs.items) start cs.fit;
-    };
-    same = e ∙ (λ i. join_with_byte 32 (x.same i) ∷ rest)
-        ∙ (λ i. spelled (with_numbers (codes "task") (x.p ∷ x.m ∷ x.r ∷ sym bs.count i ∷ sym cs.count i ∷ [])) ∷ bs.same i)
-        ∙ ap (λ r. spelled (task_line (task_of x bs.items cs.items)) ∷ flat buffer_lines bs.items ++ r) cs.same
-        ∙ ap (λ r. spelled (task_line (task_of x bs.items cs.items)) ∷ r) (sym (append_assoc (flat buffer_lines bs.items) (flat instr_lines cs.items) cs.rest));
-  }
+  item = task_of x bs.items cs.items;
+  rest = cs.rest;
+  fits = record {
+    priority = x.few_priority;
+    message = (x.some_message, x.few_message);
+    room = x.few_room;
+    few_buffers = omega (arith, bs.count, x.few_buffers);
+    few_code = omega (arith, cs.count, x.few_code);
+    buffers = subst (λ s. AllFit put_buffer FitsBuffer s bs.items) start bs.fit;
+    code = subst (λ s. AllFit put_instr FitsInstr (puts put_buffer bs.items s) cs.items) start cs.fit;
+  };
+  same = e ∙ (λ i. join_with_byte 32 (x.same i) ∷ rest)
+      ∙ (λ i. spelled (with_numbers (codes "task") (x.p ∷ x.m ∷ x.r ∷ sym bs.count i ∷ sym cs.count i ∷ [])) ∷ bs.same i)
+      ∙ ap (λ r. spelled (task_line (task_of x bs.items cs.items)) ∷ flat buffer_lines bs.items ++ r) cs.same
+      ∙ ap (λ r. spelled (task_line (task_of x bs.items cs.items)) ∷ r) (sym (append_assoc (flat buffer_lines bs.items) (flat instr_lines cs.items) cs.rest));
+}
   where
     start : start_of x s ≡ begin x.p x.m x.r (length bs.items) (length cs.items) s
     start = λ i. begin x.p x.m x.r (sym bs.count i) (sym cs.count i) s
@@ -403,9 +419,10 @@ task_begins s ks n ls t h w =
 pub task_clean : (s : Known) (t : Task) → FitsTask s t → AllNoLf (task_lines t)
 task_clean s t h =
     let ns = t.priority ∷ t.message ∷ t.room ∷ length t.buffers ∷ length t.code ∷ [] in
-    let small : AllSmall ns = (omega (arith, h.priority), (omega (arith, h.message.1), (omega (arith, h.room), (omega (arith, h.few_buffers), (omega (arith, h.few_code), tt))))) in
-    (joined_no_lf (numbers_text (codes "task") ns) (numbers_clean (codes "task") ns refl small),
-    all_no_lf (flat buffer_lines t.buffers) (flat instr_lines t.code) (many_clean buffer_block t.buffers (begin_task t s) h.buffers) (many_clean instr_block t.code (with_buffers t s) h.code))
+    let small : AllSmall ns = (omega (arith, h.priority), (omega (arith, h.message.1), (omega (arith, h.room), (omega (arith, h.few_buffers), (omega (arith, h.few_code), tt))))) in (
+      joined_no_lf (numbers_text (codes "task") ns) (numbers_clean (codes "task") ns refl small),
+      all_no_lf (flat buffer_lines t.buffers) (flat instr_lines t.code) (many_clean buffer_block t.buffers (begin_task t s) h.buffers) (many_clean instr_block t.code (with_buffers t s) h.code),
+    )
 
 abbrev pub task_block : Block kind.Task Task
 task_block = record { lines = task_lines; Fits = FitsTask; put = put_task; takes = task_takes; begins = task_begins; clean = task_clean }

@@ -129,11 +129,11 @@ TasksOf ms os ls = Counted (codes "tasks") task_lines (AllFit put_task FitsTask 
 listed_by : (ls here rest : List Bytes) (t : State) → ls ≡ join_with_byte 32 here ∷ rest → here ≡ codes "tower-listing" ∷ codes "1" ∷ [] → (ms : MonitorsOf rest) (os : OutputsOf ms.items ms.rest) (ts : TasksOf ms.items os.items os.rest)
     → Ends (with_tasks ms.items os.items ts.items) ts.rest t → Listed ls t
 listed_by ls here rest t e f ms os ts x = record {
-    program = record { monitors = ms.items; outputs = os.items; tasks = ts.items };
-    fits = record { few_monitors = ms.few; monitors = ms.fit; few_outputs = os.few; outputs = os.fit; few_tasks = ts.few; tasks = ts.fit };
-    same = e ∙ (λ i. join_with_byte 32 (f i) ∷ ms.same i) ∙ ap (λ r. codes "tower-listing 1" ∷ (monitor_rows ms.items ++ r)) (os.same ∙ ap (λ r. output_rows os.items ++ r) (ts.same ∙ ap (λ r. task_rows ts.items ++ r) x.rest));
-    state = x.same;
-  }
+  program = record { monitors = ms.items; outputs = os.items; tasks = ts.items };
+  fits = record { few_monitors = ms.few; monitors = ms.fit; few_outputs = os.few; outputs = os.fit; few_tasks = ts.few; tasks = ts.fit };
+  same = e ∙ (λ i. join_with_byte 32 (f i) ∷ ms.same i) ∙ ap (λ r. codes "tower-listing 1" ∷ (monitor_rows ms.items ++ r)) (os.same ∙ ap (λ r. output_rows os.items ++ r) (ts.same ∙ ap (λ r. task_rows ts.items ++ r) x.rest));
+  state = x.same;
+}
 
 tasks_by : (ls here rest : List Bytes) (t : State) → ls ≡ join_with_byte 32 here ∷ rest → here ≡ codes "tower-listing" ∷ codes "1" ∷ [] → (ms : MonitorsOf rest) (os : OutputsOf ms.items ms.rest) (n : ℕ)
     → walk (at (kind.Tasks ∷ kind.Ending ∷ []) (with_outputs ms.items os.items)) n os.rest ≡ Ok t → IsWhole t → TasksOf ms.items os.items os.rest → Listed ls t
@@ -193,11 +193,12 @@ rows_text p =
     ∙ sym (append_assoc title a (b ++ (c ++ e))) ∙ sym (append_assoc (title ++ a) b (c ++ e)) ∙ sym (append_assoc (title ++ a ++ b) c e)
 
 pub rows_clean : (p : Program) → FitsProgram p → AllNoLf (rows p)
-rows_clean p h =
-    ((refl, (refl, (refl, (refl, (refl, (refl, (refl, (refl, (refl, (refl, (refl, (refl, (refl, (refl, (refl, tt))))))))))))))),
-    all_no_lf (monitor_rows p.monitors) _ (counted_clean monitors_header monitor_block p.monitors fresh h.few_monitors h.monitors)
-    (all_no_lf (output_rows p.outputs) _ (counted_clean outputs_header output_block p.outputs (with_monitors p.monitors) h.few_outputs h.outputs)
-    (all_no_lf (task_rows p.tasks) _ (counted_clean tasks_header task_block p.tasks (with_outputs p.monitors p.outputs) h.few_tasks h.tasks) ((refl, (refl, (refl, tt))), tt))))
+rows_clean p h = (
+  (refl, (refl, (refl, (refl, (refl, (refl, (refl, (refl, (refl, (refl, (refl, (refl, (refl, (refl, (refl, tt))))))))))))))),
+  all_no_lf (monitor_rows p.monitors) _ (counted_clean monitors_header monitor_block p.monitors fresh h.few_monitors h.monitors)
+      (all_no_lf (output_rows p.outputs) _ (counted_clean outputs_header output_block p.outputs (with_monitors p.monitors) h.few_outputs h.outputs)
+      (all_no_lf (task_rows p.tasks) _ (counted_clean tasks_header task_block p.tasks (with_outputs p.monitors p.outputs) h.few_tasks h.tasks) ((refl, (refl, (refl, tt))), tt))),
+)
 
 -- the text is taken apart into the lines
 pub listing_lines : (p : Program) → FitsProgram p → (whole_lines (listing p) ≡ rows p) × (behind_lines (listing p) ≡ [])

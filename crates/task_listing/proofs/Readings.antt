@@ -104,10 +104,10 @@ whole_text bs e = sym (lines_back bs) ∙ ap (λ l. texts joined.ended (whole_li
 
 read_by : (bs : Bytes) (t : State) → (w : Walked bs t) → Listed (whole_lines bs) w.state → Read bs (program_of t)
 read_by bs t w l = subst (Read bs) (sym (program_is l.program) ∙ ap program_of (sym l.state ∙ w.passes.same)) (record {
-    same = whole_text bs w.passes.nothing ∙ ap (texts joined.ended) l.same ∙ rows_text l.program;
-    is_program = record { rules = fits_keeps l.program l.fits few_words few_instructions; priorities = priorities l.program.tasks _ l.fits.tasks };
-    short = w.short;
-  })
+  same = whole_text bs w.passes.nothing ∙ ap (texts joined.ended) l.same ∙ rows_text l.program;
+  is_program = record { rules = fits_keeps l.program l.fits few_words few_instructions; priorities = priorities l.program.tasks _ l.fits.tasks };
+  short = w.short;
+})
   where
     few_words : (final l.program).words ≤ most_words
     few_words = subst (λ (s : State). s.context.words ≤ most_words) l.state w.passes.words

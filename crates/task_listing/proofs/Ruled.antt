@@ -211,16 +211,19 @@ buffer_rules (b ∷ bs) s h = All-cons IsBuffer b bs h.0 (buffer_rules bs (put_b
 
 stands_behind : (p : Program) (t : Task) (s : Known) → s.monitors ≡ p.monitors → s.outputs ≡ p.outputs → Stands p t (with_buffers t s)
 stands_behind p t s m o = record {
-    monitors = ap (λ (v : Known). v.monitors) (buffers_put t.buffers (begin_task t s)) ∙ m;
-    outputs = ap (λ (v : Known). v.outputs) (buffers_put t.buffers (begin_task t s)) ∙ o;
-    head = ap (λ (v : Known). v.head) (buffers_put t.buffers (begin_task t s));
-  }
+  monitors = ap (λ (v : Known). v.monitors) (buffers_put t.buffers (begin_task t s)) ∙ m;
+  outputs = ap (λ (v : Known). v.outputs) (buffers_put t.buffers (begin_task t s)) ∙ o;
+  head = ap (λ (v : Known). v.head) (buffers_put t.buffers (begin_task t s));
+}
 
 task_rules : (p : Program) (t : Task) (s : Known) → s.monitors ≡ p.monitors → s.outputs ≡ p.outputs → FitsTask s t → IsTask p t
 task_rules p t s m o h = record {
-    message = h.message; room = h.room; few_buffers = h.few_buffers; buffers = buffer_rules t.buffers (begin_task t s) h.buffers;
-    code = code_rules p t (with_buffers t s) t.code (stands_behind p t s m o) h.code;
-  }
+  message = h.message;
+  room = h.room;
+  few_buffers = h.few_buffers;
+  buffers = buffer_rules t.buffers (begin_task t s) h.buffers;
+  code = code_rules p t (with_buffers t s) t.code (stands_behind p t s m o) h.code;
+}
 
 behind_monitors : (t : Task) (s : Known) → (put_task t s).monitors ≡ s.monitors
 behind_monitors t s = ap (λ (v : Known). v.monitors) (task_put t s)
@@ -244,11 +247,15 @@ output_rules (n ∷ ns) s h = All-cons (λ n. n ≤ most_words) n ns h.0 (output
 -- a program of which the lines are taken keeps the rules, where it is not too large
 pub fits_keeps : (p : Program) → FitsProgram p → (final p).words ≤ most_words → (final p).instructions ≤ most_instructions → KeepsRules p
 fits_keeps p h w i = record {
-    few_monitors = h.few_monitors; few_outputs = h.few_outputs; few_tasks = h.few_tasks;
-    monitors = monitor_rules p.monitors fresh h.monitors; outputs = output_rules p.outputs (with_monitors p.monitors) h.outputs;
-    tasks = tasks_rules p p.tasks (with_outputs p.monitors p.outputs) (outputs_monitors p.monitors p.outputs) (outputs_first p.monitors p.outputs) h.tasks;
-    words = omega (arith, w, final_words p); instructions = omega (arith, i, final_instructions p);
-  }
+  few_monitors = h.few_monitors;
+  few_outputs = h.few_outputs;
+  few_tasks = h.few_tasks;
+  monitors = monitor_rules p.monitors fresh h.monitors;
+  outputs = output_rules p.outputs (with_monitors p.monitors) h.outputs;
+  tasks = tasks_rules p p.tasks (with_outputs p.monitors p.outputs) (outputs_monitors p.monitors p.outputs) (outputs_first p.monitors p.outputs) h.tasks;
+  words = omega (arith, w, final_words p);
+  instructions = omega (arith, i, final_instructions p);
+}
 
 -- ---- and the other way
 
@@ -272,9 +279,10 @@ index_few ms m h l = h m 0 l
 monitor_back : (ms : List ℕ) (m a n : ℕ) → length ms ≤ most_words → All (λ n. n ≤ most_words) ms → (m < length ms) × IsRange a n (slice_index ms m)
     → ((m < 2 ^ 32) × (a < 2 ^ 32) × (n < 2 ^ 32)) × (nat_lt m (length ms) && is_range a n (slice_index ms m) ≡ true)
 monitor_back ms m a n few each h =
-    let k = index_few ms m each h.0 in
-    ((omega (arith, few, h.0), omega (arith, k, h.1.1), omega (arith, k, h.1.1)),
-    true_and (nat_lt m (length ms)) (is_range a n (slice_index ms m)) (lt-ltb m (length ms) h.0) (of_range a n (slice_index ms m) h.1))
+    let k = index_few ms m each h.0 in (
+      (omega (arith, few, h.0), omega (arith, k, h.1.1), omega (arith, k, h.1.1)),
+      true_and (nat_lt m (length ms)) (is_range a n (slice_index ms m)) (lt-ltb m (length ms) h.0) (of_range a n (slice_index ms m) h.1),
+    )
 
 rule_back : (p : Program) (t : Task) (i : Instr) → Bounds p t → IsInstr p t i → Back p t i
 rule_back p t (instr.Push n) b h = record { operands = h; small = tt; kept = refl }
@@ -297,9 +305,10 @@ rule_back p t (instr.Take a) b h = record { operands = tt; small = omega (arith,
 rule_back p t (instr.Lock m) b h = record { operands = tt; small = omega (arith, b.few_monitors, h); kept = lt-ltb m (length p.monitors) h }
 rule_back p t (instr.Unlock m) b h = record { operands = tt; small = omega (arith, b.few_monitors, h); kept = lt-ltb m (length p.monitors) h }
 rule_back p t (instr.Out w a) b h = record {
-    operands = tt; small = (omega (arith, b.few_outputs, h.0), omega (arith, b.room, h.1));
-    kept = true_and (nat_lt w (length p.outputs)) (nat_le (a + slice_index p.outputs w) t.room) (lt-ltb w (length p.outputs) h.0) (le-leb (a + slice_index p.outputs w) t.room h.1);
-  }
+  operands = tt;
+  small = (omega (arith, b.few_outputs, h.0), omega (arith, b.room, h.1));
+  kept = true_and (nat_lt w (length p.outputs)) (nat_le (a + slice_index p.outputs w) t.room) (lt-ltb w (length p.outputs) h.0) (le-leb (a + slice_index p.outputs w) t.room h.1);
+}
 rule_back p t (instr.Bclr n) b h = record { operands = tt; small = omega (arith, b.few_buffers, h); kept = lt-ltb n (length t.buffers) h }
 rule_back p t (instr.Bput n) b h = record { operands = tt; small = omega (arith, b.few_buffers, h); kept = lt-ltb n (length t.buffers) h }
 rule_back p t (instr.Badd n) b h = record { operands = tt; small = omega (arith, b.few_buffers, h); kept = lt-ltb n (length t.buffers) h }
@@ -311,9 +320,10 @@ instr_fits p t s i e h = record { operands = h.operands; small = h.small; kept =
 
 code_fits : (p : Program) (t : Task) (s : Known) (cs : List Instr) → Bounds p t → Stands p t s → All (IsInstr p t) cs → AllFit put_instr FitsInstr s cs
 code_fits p t s [] b e h = tt
-code_fits p t s (c ∷ cs) b e h =
-    (instr_fits p t s c e (rule_back p t c b (All-head (IsInstr p t) c cs h)),
-    code_fits p t (put_instr c s) cs b (record { monitors = e.monitors; outputs = e.outputs; head = e.head }) (All-tail (IsInstr p t) c cs h))
+code_fits p t s (c ∷ cs) b e h = (
+  instr_fits p t s c e (rule_back p t c b (All-head (IsInstr p t) c cs h)),
+  code_fits p t (put_instr c s) cs b (record { monitors = e.monitors; outputs = e.outputs; head = e.head }) (All-tail (IsInstr p t) c cs h),
+)
 
 buffers_fit : (bs : List Buffer) (s : Known) → All IsBuffer bs → AllFit put_buffer FitsBuffer s bs
 buffers_fit [] s h = tt
@@ -321,9 +331,14 @@ buffers_fit (b ∷ bs) s h = (All-head IsBuffer b bs h, buffers_fit bs (put_buff
 
 task_fits : (p : Program) (t : Task) (s : Known) → KeepsRules p → s.monitors ≡ p.monitors → s.outputs ≡ p.outputs → t.priority ≤ 255 → length t.code ≤ most_words → IsTask p t → FitsTask s t
 task_fits p t s k m o prio few h = record {
-    priority = prio; message = h.message; room = h.room; few_buffers = h.few_buffers; few_code = few; buffers = buffers_fit t.buffers (begin_task t s) h.buffers;
-    code = code_fits p t (with_buffers t s) t.code (record { few_monitors = k.few_monitors; monitors = k.monitors; few_outputs = k.few_outputs; room = h.room; few_buffers = h.few_buffers; few_code = few }) (stands_behind p t s m o) h.code;
-  }
+  priority = prio;
+  message = h.message;
+  room = h.room;
+  few_buffers = h.few_buffers;
+  few_code = few;
+  buffers = buffers_fit t.buffers (begin_task t s) h.buffers;
+  code = code_fits p t (with_buffers t s) t.code (record { few_monitors = k.few_monitors; monitors = k.monitors; few_outputs = k.few_outputs; room = h.room; few_buffers = h.few_buffers; few_code = few }) (stands_behind p t s m o) h.code;
+}
 
 tasks_fit : (p : Program) (ts : List Task) (s : Known) → KeepsRules p → s.monitors ≡ p.monitors → s.outputs ≡ p.outputs → sum (map (λ t. length t.code) ts) ≤ most_instructions → All (λ t. t.priority ≤ 255) ts → All (IsTask p) ts
     → AllFit put_task FitsTask s ts
@@ -331,9 +346,10 @@ tasks_fit p [] s k m o few prio h = tt
 tasks_fit p (t ∷ ts) s k m o few prio h =
     let c = sum_by-cons (λ x. x) (length t.code) (map (λ t. length t.code) ts) in
     let here : length t.code ≤ most_words = omega (arith, c, few) in
-    let rest : sum (map (λ t. length t.code) ts) ≤ most_instructions = omega (arith, c, few) in
-    (task_fits p t s k m o (All-head (λ t. t.priority ≤ 255) t ts prio) here (All-head (IsTask p) t ts h),
-    tasks_fit p ts (put_task t s) k (behind_monitors t s ∙ m) (behind_outputs t s ∙ o) rest (All-tail (λ t. t.priority ≤ 255) t ts prio) (All-tail (IsTask p) t ts h))
+    let rest : sum (map (λ t. length t.code) ts) ≤ most_instructions = omega (arith, c, few) in (
+      task_fits p t s k m o (All-head (λ t. t.priority ≤ 255) t ts prio) here (All-head (IsTask p) t ts h),
+      tasks_fit p ts (put_task t s) k (behind_monitors t s ∙ m) (behind_outputs t s ∙ o) rest (All-tail (λ t. t.priority ≤ 255) t ts prio) (All-tail (IsTask p) t ts h),
+    )
 
 monitors_fit : (ns : List ℕ) (s : Known) → All (λ n. n ≤ most_words) ns → AllFit put_monitor IsFew s ns
 monitors_fit [] s h = tt
@@ -346,6 +362,10 @@ outputs_fit (n ∷ ns) s h = (All-head (λ n. n ≤ most_words) n ns h, outputs_
 -- the lines of a program are taken that keeps the rules
 pub keeps_fits : (p : Program) → KeepsRules p → All (λ t. t.priority ≤ 255) p.tasks → FitsProgram p
 keeps_fits p k prio = record {
-    few_monitors = k.few_monitors; monitors = monitors_fit p.monitors fresh k.monitors; few_outputs = k.few_outputs; outputs = outputs_fit p.outputs (with_monitors p.monitors) k.outputs; few_tasks = k.few_tasks;
-    tasks = tasks_fit p p.tasks (with_outputs p.monitors p.outputs) k (outputs_monitors p.monitors p.outputs) (outputs_first p.monitors p.outputs) k.instructions prio k.tasks;
-  }
+  few_monitors = k.few_monitors;
+  monitors = monitors_fit p.monitors fresh k.monitors;
+  few_outputs = k.few_outputs;
+  outputs = outputs_fit p.outputs (with_monitors p.monitors) k.outputs;
+  few_tasks = k.few_tasks;
+  tasks = tasks_fit p p.tasks (with_outputs p.monitors p.outputs) k (outputs_monitors p.monitors p.outputs) (outputs_first p.monitors p.outputs) k.instructions prio k.tasks;
+}

@@ -61,9 +61,13 @@ some_left k ks e = cc
 pub first_of : (k : Kind) (ks : List Kind) (s : Known) (n : ℕ) (ls : List Bytes) (t : State) → walk (at (k ∷ ks) s) n ls ≡ Ok t → IsWhole t → First k (at ks s).context ls
 first_of k ks s n [] t h w = let e : at (k ∷ ks) s ≡ t = cc in absurd (some_left k ks (ap (λ s. s.context.awaits) e ∙ w.all))
 first_of k ks s n (l ∷ ls) t h w = record {
-    here = words l; rest = ls; same = ap (λ l. l ∷ ls) (sym (join_with_byte-slice_split 32 l)); split = ap words (join_with_byte-slice_split 32 l);
-    right = two.0; kept = by (breaks_kind k (at ks s).context (words l)) refl;
-  }
+  here = words l;
+  rest = ls;
+  same = ap (λ l. l ∷ ls) (sym (join_with_byte-slice_split 32 l));
+  split = ap words (join_with_byte-slice_split 32 l);
+  right = two.0;
+  kept = by (breaks_kind k (at ks s).context (words l)) refl;
+}
   where
     two : (judge_kind k (words l) ≡ None) × (walk (next (at (k ∷ ks) s) n (words l)) (n + 1) ls ≡ Ok t)
     two = walk_none (at (k ∷ ks) s) n l ls t h
@@ -138,9 +142,12 @@ behind_one {k} b s ks n ls t h x = sym (b.takes x.item s ks n x.rest x.fits) ∙
 
 one_more : {k : Kind} {A : Type 0} (b : Block k A) (many : ℕ) (s : Known) (ls : List Bytes) (x : Begins b.lines (b.Fits s) ls) → Many b.lines (AllFit b.put b.Fits (b.put x.item s)) many x.rest → Many b.lines (AllFit b.put b.Fits s) (suc many) ls
 one_more b many s ls x y = record {
-    items = x.item ∷ y.items; rest = y.rest; count = ap suc y.count; fit = (x.fits, y.fit);
-    same = x.same ∙ ap (λ r. b.lines x.item ++ r) y.same ∙ sym (append_assoc (b.lines x.item) (flat b.lines y.items) y.rest);
-  }
+  items = x.item ∷ y.items;
+  rest = y.rest;
+  count = ap suc y.count;
+  fit = (x.fits, y.fit);
+  same = x.same ∙ ap (λ r. b.lines x.item ++ r) y.same ∙ sym (append_assoc (b.lines x.item) (flat b.lines y.items) y.rest);
+}
 
 pub many_of : {k : Kind} {A : Type 0} (b : Block k A) (many : ℕ) (s : Known) (ks : List Kind) (n : ℕ) (ls : List Bytes) (t : State) → walk (at (replicate many k ++ ks) s) n ls ≡ Ok t → IsWhole t
     → Many b.lines (AllFit b.put b.Fits s) many ls
@@ -214,11 +221,14 @@ counted_of {from} {k} {A} {head} h b s ks n ls t e w =
     let small : m.0 < 2 ^ 64 = omega (arith, c.0) in
     let new = h.calls m.0 ks s n small ∙ ap (next_kind from (at ks s) n) (sym c.1) in
     let g : walk (at (replicate m.0 k ++ ks) s) (n + 1) f.rest ≡ Ok t =
-        sym (line_on from ks s (at (replicate m.0 k ++ ks) s) n f.here f.rest f.split f.right new) ∙ ap (walk (at (from ∷ ks) s) n) (sym f.same) ∙ e in
+    sym (line_on from ks s (at (replicate m.0 k ++ ks) s) n f.here f.rest f.split f.right new) ∙ ap (walk (at (from ∷ ks) s) n) (sym f.same) ∙ e in
     let y = many_of b m.0 s ks (n + 1) f.rest t g w in
     let few : length y.items ≤ most_words = omega (arith, c.0, y.count) in
     record {
-      items = y.items; rest = y.rest; few = few; fit = y.fit;
+      items = y.items;
+      rest = y.rest;
+      few = few;
+      fit = y.fit;
       same = f.same ∙ ap (λ ws. join_with_byte 32 ws ∷ f.rest) c.1 ∙ ap (λ m. spelled (with_numbers head (m ∷ [])) ∷ f.rest) (sym y.count) ∙ ap (λ r. spelled (with_numbers head (length y.items ∷ [])) ∷ r) y.same;
     }
 

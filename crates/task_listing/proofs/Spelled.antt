@@ -407,7 +407,11 @@ task_line_is (w ∷ x1 ∷ x2 ∷ x3 ∷ x4 ∷ x5 ∷ []) p m r b c h =
     let n4 = count_is most_words x4 b z.0 in
     let n5 = count_is most_words x5 c z.1 in
     record {
-      few_priority = n1.0; few_message = n2.0; few_room = n3.0; few_buffers = n4.0; few_code = n5.0;
+      few_priority = n1.0;
+      few_message = n2.0;
+      few_room = n3.0;
+      few_buffers = n4.0;
+      few_code = n5.0;
       same = λ i. all.0 i ∷ n1.1 i ∷ n2.1 i ∷ n3.1 i ∷ n4.1 i ∷ n5.1 i ∷ [];
     }
 

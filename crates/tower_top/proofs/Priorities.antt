@@ -70,6 +70,6 @@ priorities_low bs arch h =
     let raw = s.is.raw in
     let printable = spelled_is_printable bs raw s.is.spelled in
     let linked : AllOf IsLow s.named.items =
-        subst (λ (t : Raw Link). AllOf IsLow t.items) (sym s.is.linked.2) (linked_low s.is.linked.0 (find (declared_in raw.items)) raw.items (items_low raw.version raw.items printable.items)) in
+    subst (λ (t : Raw Link). AllOf IsLow t.items) (sym s.is.linked.2) (linked_low s.is.linked.0 (find (declared_in raw.items)) raw.items (items_low raw.version raw.items printable.items)) in
     let low : AllOf (λ s. s.priority ≤ 255) arch.sources = subst (λ (a : Arch). AllOf (λ s. s.priority ≤ 255) a.sources) (sym s.checked.outlined) (sources_low s.named.items linked) in
     tasks_low arch 0 arch.sources low

@@ -25,6 +25,10 @@ const FLIGHT_CHECK: &str =
 const CLOCK_CHECK: &str =
     "tower clock\nrecords 0 sources 1 channels 0 outputs 0 monitors 1 handlers 1\ncost beat 216\nmemory 132\ncode 216\nok\n";
 
+/// Its listing.
+const CLOCK_LISTING: &str =
+    "tower-listing 1\nmonitors 1\nmonitor 1\noutputs 0\ntasks 1\ntask 5 1 4 0 12\nTAKE 0\nCALL 3\nJMP 0\nLOCK 0\nPUSH 0\nPUSH 0\nLDM 0 0 1\nPUSH 1\nBIN + u32\nSTM 0 0 1\nUNLOCK 0\nRET\nend\n";
+
 /// The run of `clock` over 25 ticks, stopped before its first instruction, and before its second.
 const NO_STEP: &str =
     "0 a\n0 a\n0 a\n0 a\n0 a\n0 a\n0 a\n0 a\n0 a\n0 a\nstate count n 0\ncount 0\nstopped\n";
@@ -64,8 +68,16 @@ fn words(alloc: Global, line: &str) -> Result<Vec<String>, AllocError> {
 }
 
 /// Each line of words with its status and what it writes on `out` and on `err`.
-const ANSWERS: [(&str, Status, &str, &str); 30] = [
+const ANSWERS: [(&str, Status, &str, &str); 33] = [
     ("towerc check clock", Status::Done, CLOCK_CHECK, ""),
+    ("towerc compile clock", Status::Done, CLOCK_LISTING, ""),
+    (
+        "towerc compile open",
+        Status::Refused,
+        "",
+        "refused: unclosed 0\n",
+    ),
+    ("towerc compile clock --steps 1", Status::Usage, "", USAGE),
     (
         "towerc check open",
         Status::Refused,

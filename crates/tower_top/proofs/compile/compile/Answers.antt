@@ -4,7 +4,7 @@ use Rattle.tower_top.specs.Calls.{still, shelf_change, sink_change}
 use Rattle.tower_top.specs.Compile as command
 use Rattle.tower_top.specs.Requests.{no_command}
 use Rattle.tower_top.specs.Words.{given_of, has_only, no_options}
-use Rattle.tower_top.proofs.Endings.{answered, chosen, not_chosen, stopped_at, went_on, lacks_memory}
+use Rattle.tower_top.proofs.Endings.{answered, chosen, not_chosen, stopped_at, went_on}
 use Rattle.tower_top.proofs.compile.compile.Goals as goal
 
 pub returns-then-not-has_only : goal.returns-then-not-has_only
@@ -18,14 +18,15 @@ returns-in-Err g c =
     chosen (command.compile.request (given_of c.args.given.now)) no_command _ has
     (stopped_at (record { written = g.O.Sink.written c.args.out.now; faults = g.O.Sink.faults c.args.out.now }) c.in-Err.ensures)
 
-pub returns-in-Ok : goal.returns-in-Ok
-returns-in-Ok g c =
+pub returns-in-Ok-listing_of : goal.returns-in-Ok-listing_of
+returns-in-Ok-listing_of g c =
     let has : has_only no_options (given_of c.args.given.now) ≡ true = cc in
     let shelf = shelf_change g.F.Shelf.held g.F.Shelf.blamed g.F.Shelf.faults c.args.shelf.now c.read_file.new.shelf in
     let out = sink_change g.O.Sink.written g.O.Sink.faults c.args.out.now c.put_whole.new.out in
     let err = sink_change g.E.Sink.written g.E.Sink.faults c.args.err.now c.read_file.new.err in
     let h = c.in-Ok.ensures in
-    ?
-
-pub returns-in-Err-listing_of : goal.returns-in-Err-listing_of
-returns-in-Err-listing_of g c = ?
+    let puts = subst (λ (t : List ℕ). Puts g.O.Sink.written g.O.Sink.faults c.args.out.now c.put_whole.new.out t c.put_whole.result) (c.as_slice.ensures ∙ c.in-Ok-listing_of.ensures) c.put_whole.ensures in
+    rw c.after.ensures
+    (chosen (command.compile.request (given_of c.args.given.now)) no_command _ has
+    (went_on shelf err (record { shelf = still shelf.after; out = out; err = still err.after }) h.0 h.1 h.2 refl refl
+    (answered _ c.put_whole.result (λ p call a. a) refl refl puts)))

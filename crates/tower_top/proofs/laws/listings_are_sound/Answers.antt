@@ -17,8 +17,11 @@ is_program bs arch h = record { rules = rules_kept bs arch h; priorities = prior
 lists : ListingsAreSound
 unfolding listing_of
 lists bs arch h = record {
-    is_program = is_program bs arch h; same = refl; one = λ q k e. of_one q (code_of arch) k (is_program bs arch h) (sym e); sound = closing.sound bs arch h;
-  }
+  is_program = is_program bs arch h;
+  same = refl;
+  one = λ q k e. of_one q (code_of arch) k (is_program bs arch h) (sym e);
+  sound = closing.sound bs arch h;
+}
 
 pub returns : goal.returns
 returns c = lists
