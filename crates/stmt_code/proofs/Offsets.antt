@@ -1,4 +1,4 @@
--- The words before a state, a field or an element.
+-- The words before a field or an element.
 use Rattle.std.proofs.Common.{◌≡◌, ◌∙◌, ℕ, zero, suc, ◌+◌, ◌<◌, ◌||◌, Bool, true, false, Option, Some, None, List, [], ◌∷◌, length, map, drop, get_or, add-one, arith, refl, ap, sym, subst}
 use Rattle.tower_types.specs.Ty.{Shape, one, many, all, Shapes, no_shapes, shape, words}
 use Rattle.tower_syntax.specs.Tree.{Expr, Place, Steps, no_steps, field, at}
@@ -14,42 +14,6 @@ use Rattle.channel_graph.specs.Scoped.{part_shape}
 use Rattle.channel_graph.proofs.Weighed.{step_of-Field, step_of-At}
 use Rattle.stmt_code.specs.Layout.{words_before, fields_before, field_offset, fixed_offset, given_index, given_offset, is_moving, moves}
 use Rattle.stmt_code.specs.Seen.{step_moves}
-
-pub words_before-zero : (ss : List Shape) → words_before ss 0 ≡ 0
-words_before-zero [] = refl
-words_before-zero (s ∷ ss) = refl
-
-words_before-suc : (ss : List Shape) (k : ℕ) → words_before ss (suc k) ≡ words_before ss k + words (shape_at ss k)
-words_before-suc [] k = refl
-words_before-suc (s ∷ ss) zero = omega (arith, words_before-zero ss)
-words_before-suc (s ∷ ss) (suc k) = omega (arith, words_before-suc ss k)
-
--- one more state
-pub words_before_more : (ss : List Shape) (k : ℕ) → words_before ss (k + 1) ≡ words_before ss k + words (shape_at ss k)
-words_before_more ss k = ap (words_before ss) (add-one k) ∙ words_before-suc ss k
-
-fields_before-zero : (ss : Shapes) → fields_before ss 0 ≡ 0
-fields_before-zero no_shapes = refl
-fields_before-zero (shape s ss) = refl
-
-fields_before-suc : (ss : Shapes) (k : ℕ) → fields_before ss (suc k) ≡ fields_before ss k + words (nth_shape ss k)
-fields_before-suc no_shapes k = refl
-fields_before-suc (shape s ss) zero = omega (arith, fields_before-zero ss)
-fields_before-suc (shape s ss) (suc k) = omega (arith, fields_before-suc ss k)
-
-pub field_offset-zero : (s : Shape) → field_offset 0 s ≡ 0
-field_offset-zero (one t) = refl
-field_offset-zero (many n s) = refl
-field_offset-zero (all ss) = fields_before-zero ss
-
--- one more field
-pub field_offset_more : (s : Shape) (k : ℕ) → field_offset (k + 1) s ≡ field_offset k s + words (part_shape (step.Field k) s)
-field_offset_more s k = ap (λ j. field_offset j s) (add-one k) ∙ more s ∙ ap (λ (st : Step). field_offset k s + words (steps_shape s (st no_steps))) (sym (step_of-Field k))
-  where
-    more : (s : Shape) → field_offset (suc k) s ≡ field_offset k s + words (field_shape k s)
-    more (one t) = refl
-    more (many n t) = refl
-    more (all ss) = fields_before-suc ss k
 
 -- a field's part of an offset
 pub offset-field : (s : Shape) (y : StepValue) (k n : ℕ) (rest : Steps) → y ≡ step.Field k → n ≡ field_offset k s → fixed_offset s (step_of y rest) ≡ n + fixed_offset (part_shape y s) rest

@@ -30,8 +30,8 @@ parts a b monitors outputs tasks is_monitors is_outputs same is_tasks p is =
     let two = outputs_in a b outputs is_outputs same in
     is ∙ (λ t. record { monitors = one t; outputs = two t; tasks = is_tasks t })
 
-pub new-requires : goal.new-requires
-new-requires c =
+pub new-requires-2 : goal.new-requires-2
+new-requires-2 c =
     let arch = c.args.arch.now in
     let whole : Program = record { monitors = c.in_ok-monitors.monitors; outputs = c.in_ok-outputs.outputs; tasks = c.in_ok-tasks.tasks } in
     let is : whole ≡ code_of arch = parts c.arch-system.result.now arch c.in_ok-monitors.monitors c.in_ok-outputs.outputs c.in_ok-tasks.tasks c.in_ok-monitors.ensures c.in_ok-outputs.ensures c.arch-system.ensures.value (measured_tasks c.new-measured.result c.args.arch.now c.in_ok-tasks.tasks c.in_ok-tasks.ensures c.new-measured.ensures) whole (λ t. whole) in
@@ -39,22 +39,22 @@ new-requires c =
 
 pub returns-clause-program : goal.returns-clause-program
 returns-clause-program c =
-    parts c.arch-system.result.now c.args.arch.now c.in_ok-monitors.monitors c.in_ok-outputs.outputs c.in_ok-tasks.tasks c.in_ok-monitors.ensures c.in_ok-outputs.ensures c.arch-system.ensures.value (measured_tasks c.new-measured.result c.args.arch.now c.in_ok-tasks.tasks c.in_ok-tasks.ensures c.new-measured.ensures) c.new.result c.new.ensures
+    parts c.arch-system.result.now c.args.arch.now c.in_ok-monitors.monitors c.in_ok-outputs.outputs c.in_ok-tasks.tasks c.in_ok-monitors.ensures c.in_ok-outputs.ensures c.arch-system.ensures.value (measured_tasks c.new-measured.result c.args.arch.now c.in_ok-tasks.tasks c.in_ok-tasks.ensures c.new-measured.ensures) c.new-2.result c.new-2.ensures
 
 pub returns-clause-sound : goal.returns-clause-sound
 returns-clause-sound c =
     let arch = c.args.arch.now in
-    let is = parts c.arch-system.result.now arch c.in_ok-monitors.monitors c.in_ok-outputs.outputs c.in_ok-tasks.tasks c.in_ok-monitors.ensures c.in_ok-outputs.ensures c.arch-system.ensures.value (measured_tasks c.new-measured.result c.args.arch.now c.in_ok-tasks.tasks c.in_ok-tasks.ensures c.new-measured.ensures) c.new.result c.new.ensures in
+    let is = parts c.arch-system.result.now arch c.in_ok-monitors.monitors c.in_ok-outputs.outputs c.in_ok-tasks.tasks c.in_ok-monitors.ensures c.in_ok-outputs.ensures c.arch-system.ensures.value (measured_tasks c.new-measured.result c.args.arch.now c.in_ok-tasks.tasks c.in_ok-tasks.ensures c.new-measured.ensures) c.new-2.result c.new-2.ensures in
     subst (Sound arch) (sym is) (sound c.arch-system.ensures.accepted.0 arch c.arch-system.ensures.accepted.1)
 
 pub returns-clause-words : goal.returns-clause-words
 returns-clause-words c =
     let arch = c.args.arch.now in
-    let is = parts c.arch-system.result.now arch c.in_ok-monitors.monitors c.in_ok-outputs.outputs c.in_ok-tasks.tasks c.in_ok-monitors.ensures c.in_ok-outputs.ensures c.arch-system.ensures.value (measured_tasks c.new-measured.result c.args.arch.now c.in_ok-tasks.tasks c.in_ok-tasks.ensures c.new-measured.ensures) c.new.result c.new.ensures in
+    let is = parts c.arch-system.result.now arch c.in_ok-monitors.monitors c.in_ok-outputs.outputs c.in_ok-tasks.tasks c.in_ok-monitors.ensures c.in_ok-outputs.ensures c.arch-system.ensures.value (measured_tasks c.new-measured.result c.args.arch.now c.in_ok-tasks.tasks c.in_ok-tasks.ensures c.new-measured.ensures) c.new-2.result c.new-2.ensures in
     subst (λ (p : Program). all_words p ≤ memory arch) (sym is) (sound c.arch-system.ensures.accepted.0 arch c.arch-system.ensures.accepted.1).shaped.memory
 
 pub returns-clause-instructions : goal.returns-clause-instructions
 returns-clause-instructions c =
     let arch = c.args.arch.now in
-    let is = parts c.arch-system.result.now arch c.in_ok-monitors.monitors c.in_ok-outputs.outputs c.in_ok-tasks.tasks c.in_ok-monitors.ensures c.in_ok-outputs.ensures c.arch-system.ensures.value (measured_tasks c.new-measured.result c.args.arch.now c.in_ok-tasks.tasks c.in_ok-tasks.ensures c.new-measured.ensures) c.new.result c.new.ensures in
+    let is = parts c.arch-system.result.now arch c.in_ok-monitors.monitors c.in_ok-outputs.outputs c.in_ok-tasks.tasks c.in_ok-monitors.ensures c.in_ok-outputs.ensures c.arch-system.ensures.value (measured_tasks c.new-measured.result c.args.arch.now c.in_ok-tasks.tasks c.in_ok-tasks.ensures c.new-measured.ensures) c.new-2.result c.new-2.ensures in
     subst (λ (p : Program). all_instructions p ≤ code arch) (sym is) (sound c.arch-system.ensures.accepted.0 arch c.arch-system.ensures.accepted.1).shaped.code
