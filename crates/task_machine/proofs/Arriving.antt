@@ -295,7 +295,10 @@ module _ {p : Program} {events : EventsValue} {owns : List Own} {locks : List Lo
       → Stays (reaches (Some Tick) (state_of p events (machine_of owns locks later (place + 1)) owns None))
       (state_of p events (machine_of owns locks qs place) owns turn) (state_of p events (machine_of owns locks later (place + 1)) owns None)
   tick_stays count stays = record {
-    program = refl; events = refl; tasks = refl; locks = refl;
+    program = refl;
+    events = refl;
+    tasks = refl;
+    locks = refl;
     count = as_many later qs n;
     queues = λ y h. alike later qs y (stays y (ap (λ j. is_due j (kind_in (events_of events).kinds y)) count ∙ h));
     inits = λ y h. init_not_due _ (kind_in (events_of events).kinds y) h;
@@ -307,7 +310,10 @@ module _ {p : Program} {events : EventsValue} {owns : List Own} {locks : List Lo
       → Stays (reaches (Some (Signal x)) (state_of p events (machine_of owns locks later (place + 1)) owns None))
       (state_of p events (machine_of owns locks qs place) owns turn) (state_of p events (machine_of owns locks later (place + 1)) owns None)
   signal_stays x v here stays = record {
-    program = refl; events = refl; tasks = refl; locks = refl;
+    program = refl;
+    events = refl;
+    tasks = refl;
+    locks = refl;
     count = as_many later qs n;
     queues = λ y h. alike later qs y (stays y (λ e. let f : (x == y) ≡ true = grind (arith, nat_tests) in let a : true ≡ false = sym f ∙ h in cc));
     inits = λ y h. elim (cases_eq y x) [

@@ -102,21 +102,23 @@ module _ (s : State) (n : Notes) (is : AreNoted s n) (m : ℕ) where
   pub row_waits : (row : List ℕ) → slice_get n.rows m ≡ Some row → is_ready (at_lock m (slice_get s.machine.locks m)) ≡ false
       → (t : ℕ) → (bit row t ≡ 1) ↔ (standing_in s t ≡ IsWaiting m)
   row_waits row at held t =
-      let noted = (is.each t).bits m row at in
-      (λ e.
-        let l : locks_at m (does_next s t) ≡ true = bit_true _ (sym noted ∙ e) in
-        sym (standing_is s t) ∙ stands_at_lock s (clear_in s) t m (does_next s t) l ∙ is_held m (slice_get s.machine.locks m) held,
-      λ e. bit_set _ _ noted (waits_at s (clear_in s) t m (does_next s t) (standing_is s t ∙ e)))
+      let noted = (is.each t).bits m row at in (
+        λ e.
+            let l : locks_at m (does_next s t) ≡ true = bit_true _ (sym noted ∙ e) in
+            sym (standing_is s t) ∙ stands_at_lock s (clear_in s) t m (does_next s t) l ∙ is_held m (slice_get s.machine.locks m) held,
+        λ e. bit_set _ _ noted (waits_at s (clear_in s) t m (does_next s t) (standing_is s t ∙ e)),
+      )
 
   -- and no task waits for one that is free
   pub blank_waits : is_ready (at_lock m (slice_get s.machine.locks m)) ≡ true → (t : ℕ) → (bit n.blank t ≡ 1) ↔ (standing_in s t ≡ IsWaiting m)
   blank_waits free t =
-      let none : bit n.blank t ≡ 0 = ap (λ ws. bit ws t) is.places.blank ∙ bit_blank _ t in
-      (λ e. let f : 0 ≡ 1 = sym none ∙ e in absurd (omega arith),
-      λ e.
-        let l = waits_at s (clear_in s) t m (does_next s t) (standing_is s t ∙ e) in
-        let f : IsWaiting m ≡ IsReady = sym e ∙ sym (standing_is s t) ∙ stands_at_lock s (clear_in s) t m (does_next s t) l ∙ is_free m (slice_get s.machine.locks m) free in
-        absurd (differ m f))
+      let none : bit n.blank t ≡ 0 = ap (λ ws. bit ws t) is.places.blank ∙ bit_blank _ t in (
+        λ e. let f : 0 ≡ 1 = sym none ∙ e in absurd (omega arith),
+        λ e.
+            let l = waits_at s (clear_in s) t m (does_next s t) (standing_is s t ∙ e) in
+            let f : IsWaiting m ≡ IsReady = sym e ∙ sym (standing_is s t) ∙ stands_at_lock s (clear_in s) t m (does_next s t) l ∙ is_free m (slice_get s.machine.locks m) free in
+            absurd (differ m f),
+      )
     where
       differ : (m : ℕ) → IsWaiting m ≡ IsReady → ⊥
       differ m f = cc

@@ -157,26 +157,49 @@ record Passes (x : ℕ) (touched : Option ℕ) (s t : State) : Type 0 where
 passes : (s : State) (x : ℕ) (d : Does) → Passes x (touched_by d) s (turned s x d)
 passes s x Stuck = record { program = refl; events = refl; tasks_count = refl; queues_count = refl; tasks = λ y o. refl; queues = λ y o. refl; locks = λ k o. refl }
 passes s x (Private own) = record {
-  program = refl; events = refl; tasks_count = length-set s.machine.tasks x own; queues_count = refl;
-  tasks = λ y o. get_set_other s.machine.tasks x y own o; queues = λ y o. refl; locks = λ k o. refl;
+  program = refl;
+  events = refl;
+  tasks_count = length-set s.machine.tasks x own;
+  queues_count = refl;
+  tasks = λ y o. get_set_other s.machine.tasks x y own o;
+  queues = λ y o. refl;
+  locks = λ k o. refl;
 }
 passes s x (Takes f) = record {
-  program = refl; events = refl; tasks_count = length-set s.machine.tasks x _; queues_count = length-set s.machine.queues x _;
-  tasks = λ y o. get_set_other s.machine.tasks x y _ o; queues = λ y o. get_set_other s.machine.queues x y _ o; locks = λ k o. refl;
+  program = refl;
+  events = refl;
+  tasks_count = length-set s.machine.tasks x _;
+  queues_count = length-set s.machine.queues x _;
+  tasks = λ y o. get_set_other s.machine.tasks x y _ o;
+  queues = λ y o. get_set_other s.machine.queues x y _ o;
+  locks = λ k o. refl;
 }
 passes s x (Locks m f) = record {
-  program = refl; events = refl; tasks_count = length-set s.machine.tasks x _; queues_count = refl;
-  tasks = λ y o. get_set_other s.machine.tasks x y _ o; queues = λ y o. refl;
+  program = refl;
+  events = refl;
+  tasks_count = length-set s.machine.tasks x _;
+  queues_count = refl;
+  tasks = λ y o. get_set_other s.machine.tasks x y _ o;
+  queues = λ y o. refl;
   locks = λ k o. get_set_other s.machine.locks m k _ (λ e. o (ap Some (sym e)));
 }
 passes s x (Unlocks h own) = record {
-  program = refl; events = refl; tasks_count = length-set s.machine.tasks x own; queues_count = refl;
-  tasks = λ y o. get_set_other s.machine.tasks x y own o; queues = λ y o. refl;
+  program = refl;
+  events = refl;
+  tasks_count = length-set s.machine.tasks x own;
+  queues_count = refl;
+  tasks = λ y o. get_set_other s.machine.tasks x y own o;
+  queues = λ y o. refl;
   locks = λ k o. get_set_other s.machine.locks h.monitor k _ (λ e. o (ap Some (sym e)));
 }
 passes s x (Writes o ws own) = record {
-  program = refl; events = refl; tasks_count = length-set s.machine.tasks x own; queues_count = refl;
-  tasks = λ y o. get_set_other s.machine.tasks x y own o; queues = λ y o. refl; locks = λ k o. refl;
+  program = refl;
+  events = refl;
+  tasks_count = length-set s.machine.tasks x own;
+  queues_count = refl;
+  tasks = λ y o. get_set_other s.machine.tasks x y own o;
+  queues = λ y o. refl;
+  locks = λ k o. refl;
 }
 
 untouched : (m : ℕ) (d : Does) → (touched_by d ≡ Some m → ⊥) → locks_at m d ≡ false

@@ -163,7 +163,12 @@ impl Noted {
         ensures { AreNoted running.now self.new }
     {
         self.note_actions(running);
-        stand_all(running, self.actions.as_slice(), self.clear, &mut self.ready);
+        stand_all(
+            running,
+            self.actions.as_slice(),
+            self.clear,
+            &mut self.ready,
+        );
     }
 
     fn note_actions(&mut self, running: &Running)

@@ -22,7 +22,8 @@ stand_all-requires-clause-next c = λ x a at.
 pub returns-then-clear-self : goal.returns-then-clear-self
 returns-then-clear-self c =
     let stale = rw (← c.self.view_is) at c.requires.stale in
-    one_noted c.args.running.now c.args.x _ c.is_clear_after-clear.result stale c.is_clear_after-clear.ensures (same_truth c.is_clear_after-clear.result c.self.inside.clear c.if-clear-self.true)
+    rw c.stand.ensures (one_noted c.args.running.now c.args.x _ c.is_clear_after-clear.result stale c.is_clear_after-clear.ensures
+    (same_truth c.is_clear_after-clear.result c.self.inside.clear c.if-clear-self.true))
 
 pub returns-else-clear-self : goal.returns-else-clear-self
 returns-else-clear-self c =

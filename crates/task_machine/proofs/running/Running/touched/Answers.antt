@@ -1,6 +1,7 @@
 use Rattle.std.proofs.Common.{◌≡◌, ℕ, ◌+◌, ◌<◌, ◌/◌, List, Bool, false, true, length, Some, None, slice_get, slice_set, arith, sym, ap, ◌∙◌, subst}
 use Rattle.std.specs.Option.{option_map}
 use Rattle.task_code.specs.Own.{held_monitor}
+use Rattle.task_machine.specs.State.{State}
 use Rattle.task_machine.specs.Noted.{touched_by}
 use Rattle.task_machine.proofs.Kept.{read_is}
 use Rattle.task_machine.proofs.Lists.{get_map, get_within}
@@ -28,7 +29,8 @@ returns-in-Unlock-clause-monitor c =
     let tasks = c.self.inside.tasks.items in
     let within : c.args.x < length tasks = rw (← c.self.view_is) at next.part in
     let own = get_exists tasks c.args.x within in
-    let there_too : slice_get c.args.self.now.machine.tasks c.args.x ≡ Some own.0 = rw (← c.self.view_is) own.1 in
+    let there_too : slice_get c.args.self.now.machine.tasks c.args.x ≡ Some own.0 =
+    subst (λ (z : State). slice_get z.machine.tasks c.args.x ≡ Some own.0) c.self.view_is own.1 in
     let holds = c.self.inside.holds.items in
     let there : slice_get holds c.args.x ≡ Some (held_monitor own.0) =
     ap (λ hs. slice_get hs c.args.x) c.self.invariant.kept.holds ∙ get_map held_monitor tasks c.args.x ∙ ap (option_map held_monitor) own.1 in
