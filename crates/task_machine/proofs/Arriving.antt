@@ -1,5 +1,5 @@
 -- What a running machine keeps when an entry of the record comes.
-use Rattle.std.proofs.Common.{◌≡◌, ℕ, zero, suc, ◌+◌, ◌<◌, ◌≤◌, ◌^◌, ℤ, pos, Bool, true, false, cond, List, [], ◌∷◌, ◌++◌, length, take, drop, Option, Some, None, slice_get, refl, ap, sym, ◌∙◌, subst, arith, add-one, inl, inr, length-append}
+use Rattle.std.proofs.Common.{◌≡◌, ℕ, zero, suc, ◌+◌, ◌<◌, ◌≤◌, ◌^◌, ℤ, pos, Bool, true, false, cond, List, [], ◌∷◌, ◌++◌, length, take, drop, Option, Some, None, slice_get, map, refl, ap, sym, ◌∙◌, subst, arith, add-one, inl, inr, length-append}
 use Rattle.std.specs.Prelude.{fold, All, ◌==◌}
 use Rattle.std.specs.VecDeque.{deque_capacity}
 use Rattle.std.proofs.lemmas.Bool.{cases_eq}
@@ -9,7 +9,11 @@ use Rattle.tower_types.specs.Value.{Value, flat}
 use Rattle.tower_syntax.specs.declared.arch.SourceKind.{SourceKind}
 use Rattle.tower_syntax.specs.declared.arch.SourceKind.TheVariants as kind
 use Rattle.tower_syntax.specs.Arch.{Entry, tick, signal, Events}
-use Rattle.tower_syntax.specs.Arrival.{ticks, is_tick, is_full, is_due}
+use Rattle.tower_syntax.specs.Arrival.{ticks, is_tick, is_full, is_init, is_due}
+use Rattle.tower_syntax.specs.declared.event.Events.{Events as EventsValue}
+use Rattle.tower_syntax.specs.View.{events_of}
+use Rattle.std.specs.Option.{option_map}
+use Rattle.std.proofs.lemmas.List.{length-map}
 use Rattle.task_code.specs.declared.program.Task.{Task}
 use Rattle.task_code.specs.Program.{Program}
 use Rattle.task_code.specs.Fits.{FitsKind, FitsSignal, FitsEntry}
@@ -18,9 +22,12 @@ use Rattle.task_code.specs.Machine.{Lock, Machine, bring, received}
 use Rattle.task_machine.specs.Queue.{Queue, waiting, lost, capped, IsQueue}
 use Rattle.task_machine.specs.Brought.{with_queues, depth_at, kind_in, CanBring, Brought, tick_messages}
 use Rattle.task_machine.specs.Kept.{IsKept, coming, signals, kind_of, depth_of}
-use Rattle.task_machine.specs.Arriving.{IsSignal}
-use Rattle.task_machine.specs.View.{machine_of}
-use Rattle.task_machine.proofs.Lists.{get_at, get_some, get_within, drop_at}
+use Rattle.task_machine.specs.declared.running.Turn.{Turn}
+use Rattle.task_machine.specs.declared.running.Arrival.TheVariants.{Tick, Signal}
+use Rattle.task_machine.specs.Arriving.{IsSignal, Stays, reaches}
+use Rattle.task_machine.specs.State.{State}
+use Rattle.task_machine.specs.View.{machine_of, state_of}
+use Rattle.task_machine.proofs.Lists.{get_at, get_some, get_within, get_map, drop_at}
 use Rattle.task_machine.proofs.Stands.{get_exists}
 
 ticks_more : (es : List Entry) (n : ℕ) (e : Entry) → slice_get es n ≡ Some e → ticks (take (suc n) es) ≡ cond (is_tick e) 1 0 + ticks (take n es)
@@ -262,3 +269,62 @@ module _ {p : Program} {events : Events} {owns : List Own} {locks : List Lock} {
     count = let c = kept.count in sym (ticks_more events.entries place (signal x v) here ∙ omega (arith, c));
     at = get_within events.entries place (signal x v) here;
   })
+
+signal_only : (v : Value) (k : Option SourceKind) (o : Option Task) → FitsSignal v k o → k ≡ Some kind.Signal
+signal_only v None o h = absurd h
+signal_only v (Some kind.Init) o h = absurd h
+signal_only v (Some (kind.Period ms)) o h = absurd h
+signal_only v (Some kind.Signal) o h = refl
+
+init_not_due : (k : ℕ) (kind : SourceKind) → is_init kind ≡ true → is_due k kind ≡ false
+init_not_due k kind.Init e = refl
+init_not_due k (kind.Period ms) e = cc
+init_not_due k kind.Signal e = cc
+
+alike : (later qs : List Queue) (y : ℕ) → slice_get later y ≡ slice_get qs y → slice_get (map waiting later) y ≡ slice_get (map waiting qs) y
+alike later qs y e = get_map waiting later y ∙ ap (option_map waiting) e ∙ sym (get_map waiting qs y)
+
+as_many : (later qs : List Queue) → length later ≡ length qs → length (map waiting later) ≡ length (map waiting qs)
+as_many later qs n = length-map later waiting ∙ n ∙ sym (length-map qs waiting)
+
+module _ {p : Program} {events : EventsValue} {owns : List Own} {locks : List Lock} {qs : List Queue} {messages : List (List ℤ)} {held : List (Option ℕ)} {k place : ℕ}
+    (kept : IsKept p (events_of events) owns locks qs messages held k place) (later : List Queue) (turn : Option Turn) (n : length later ≡ length qs) where
+  -- what a tick leaves as it was
+  pub tick_stays : k + 1 ≡ ticks (take (place + 1) (events_of events).entries)
+      → ((y : ℕ) → is_due (k + 1) (kind_in (events_of events).kinds y) ≡ false → slice_get later y ≡ slice_get qs y)
+      → Stays (reaches (Some Tick) (state_of p events (machine_of owns locks later (place + 1)) owns None))
+      (state_of p events (machine_of owns locks qs place) owns turn) (state_of p events (machine_of owns locks later (place + 1)) owns None)
+  tick_stays count stays = record {
+    program = refl;
+    events = refl;
+    tasks = refl;
+    locks = refl;
+    count = as_many later qs n;
+    queues = λ y h. alike later qs y (stays y (ap (λ j. is_due j (kind_in (events_of events).kinds y)) count ∙ h));
+    inits = λ y h. init_not_due _ (kind_in (events_of events).kinds y) h;
+  }
+
+  -- and a signal
+  pub signal_stays : (x : ℕ) (v : Value) → slice_get (events_of events).entries place ≡ Some (signal x v)
+      → ((y : ℕ) → (y ≡ x → ⊥) → slice_get later y ≡ slice_get qs y)
+      → Stays (reaches (Some (Signal x)) (state_of p events (machine_of owns locks later (place + 1)) owns None))
+      (state_of p events (machine_of owns locks qs place) owns turn) (state_of p events (machine_of owns locks later (place + 1)) owns None)
+  signal_stays x v here stays = record {
+    program = refl;
+    events = refl;
+    tasks = refl;
+    locks = refl;
+    count = as_many later qs n;
+    queues = λ y h. alike later qs y (stays y (λ e. let f : (x == y) ≡ true = grind (arith, nat_tests) in let a : true ≡ false = sym f ∙ h in cc));
+    inits = λ y h. elim (cases_eq y x) [
+      | inl same ↦
+          let a = get_within (events_of events).entries place (signal x v) here in
+          let P : Entry → Type 0 = FitsEntry (events_of events).kinds p.tasks in
+          let fits : FitsEntry (events_of events).kinds p.tasks (signal x v) = subst P (get_some (events_of events).entries place tick (signal x v) here) (kept.fits.entries place tick a) in
+          let only = signal_only v (slice_get (events_of events).kinds x) (slice_get p.tasks x) fits in
+          let is : kind_in (events_of events).kinds y ≡ kind.Signal = ap (kind_in (events_of events).kinds) same ∙ get_some (events_of events).kinds x kind.Signal kind.Signal only in
+          let a : true ≡ false = sym h ∙ ap is_init is in
+          cc
+      | inr o ↦ let other : x ≡ y → ⊥ = λ e. o (sym e) in grind (arith, nat_tests)
+    ];
+  }

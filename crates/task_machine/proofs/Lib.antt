@@ -7,3 +7,6 @@ pub mod Going
 pub mod Brought
 pub mod Arriving
 pub mod Starting
+pub mod BitWords
+pub mod Noting
+pub mod Settling

@@ -5,13 +5,12 @@ use Rattle.std.specs.Option.{option_map}
 use Rattle.tower_syntax.specs.declared.arch.SourceKind.{SourceKind}
 use Rattle.tower_syntax.specs.declared.arch.SourceKind.TheVariants as kind
 use Rattle.tower_syntax.specs.Arrival.{is_init}
-use Rattle.tower_syntax.specs.Arch.{Events}
 use Rattle.task_code.specs.declared.program.Task.{Task}
-use Rattle.task_code.specs.Program.{Program}
 use Rattle.task_code.specs.Own.{Own, Held}
-use Rattle.task_code.specs.Machine.{Machine}
-use Rattle.task_code.specs.Standing.{IsReady, is_clear, clear_if_init, inits_clear, standing_of}
+use Rattle.task_code.specs.Standing.{IsReady, is_clear, clear_if_init, inits_clear}
 use Rattle.task_machine.specs.Action.{unlocks}
+use Rattle.task_machine.specs.Noted.{stands_by}
+use Rattle.task_machine.specs.State.{State}
 use Rattle.task_machine.proofs.Lists.{get_at, drop_at}
 use Rattle.std.proofs.lemmas.List.{drop_all}
 
@@ -74,7 +73,7 @@ module _ (ks : List SourceKind) (ts : List Task) (owns : List Own) (qs : List (L
   clear_after x h = rw (drop_all x ks h) refl
 
 -- a task that unlocks is ready
-pub unlocks_ready : (p : Program) (events : Events) (m : Machine) (x : ℕ) (held : Option Held) (own : Own) (P : ℕ → Type 0) → IsSomeAnd (option_map (λ h. h.monitor) held) P
-    → standing_of p events m x (unlocks held own) ≡ IsReady
-unlocks_ready p events m x None own P h = absurd h
-unlocks_ready p events m x (Some l) own P h = refl
+pub unlocks_ready : (clear : Bool) (s : State) (x : ℕ) (held : Option Held) (own : Own) (P : ℕ → Type 0) → IsSomeAnd (option_map (λ h. h.monitor) held) P
+    → stands_by clear s x (unlocks held own) ≡ IsReady
+unlocks_ready clear s x None own P h = absurd h
+unlocks_ready clear s x (Some l) own P h = refl

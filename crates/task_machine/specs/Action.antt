@@ -86,11 +86,12 @@ effect (action.Lock m) own = Locks m (with_lock_of m own)
 effect action.Unlock own = unlocks own.held own
 effect (action.Out o a n) own = Writes o (take n (drop a own.words)) (on own)
 
--- a message that is taken lies in the private words, and a monitor that is unlocked and an output that gets words are
--- there
+-- a message that is taken lies in the private words, and a monitor that is locked or unlocked and an output that gets
+-- words are there
 abbrev pub IsWithin : Program → Task → Own → Action → Type 0
 IsWithin p t own (action.Private c) = HasRoom c own
 IsWithin p t own (action.Take a) = a + t.message ≤ t.room
+IsWithin p t own (action.Lock m) = m < length p.monitors
 IsWithin p t own action.Unlock = IsSomeAnd (held_monitor own) (λ m. m < length p.monitors)
 IsWithin p t own (action.Out o a n) = o < length p.outputs
 IsWithin p t own _ = Unit {0}

@@ -1,6 +1,8 @@
 pub mod Action
 pub mod Lock
+pub mod Bits
 pub mod Message
+pub mod Noted
 pub mod Policy
 pub mod Lawful
 pub mod Queue

@@ -316,7 +316,7 @@ fn take(own: &Own, at: u32) -> Action
 
 fn lock(own: &Own, monitor: u32) -> Action
     ensures effect { effect result own.now ≡ without_lock own.now.held (Locks monitor (with_lock_of monitor own.now)) }
-    ensures within { (p : ProgramOf) → (t : TaskOf) → IsWithin p t own.now result }
+    ensures within { (p : ProgramOf) → (t : TaskOf) → monitor < length p.monitors → IsWithin p t own.now result }
 {
     if is_lock_held(own) {
         Action::Stuck

@@ -3,10 +3,12 @@
 
 mod action;
 mod arrival;
+mod bits;
 mod execute;
 mod lock;
 mod machine;
 mod message;
+mod noted;
 mod operations;
 mod own;
 mod policy;

@@ -1,7 +1,6 @@
-ghost use Rattle.std.specs.Prelude.{◌≡◌, length};
 ghost use Rattle.std.specs.List.{list_any};
-ghost use Rattle.task_machine.specs.State.{ready};
 
+use crate::noted::Noted;
 use crate::policy::Policy;
 use crate::running::Running;
 use crate::standing::Standing;
@@ -31,7 +30,7 @@ pub enum Came {
 #[derive(Drop)]
 pub struct Machine {
     running: Running,
-    ready: Vec<bool>,
+    noted: Noted,
 }
 
 impl Model for Machine {
@@ -46,7 +45,9 @@ impl Model for Machine {
 
     ghost view = { λ m. m.running };
 
-    ghost invariant = { λ m. length m.ready.items ≡ length m.running.program.tasks };
+    ghost use Rattle.task_machine.specs.Noted.{AreNoted};
+
+    ghost invariant = { λ m. AreNoted m.running m.noted };
 }
 
 impl Machine {
@@ -55,11 +56,13 @@ impl Machine {
     ghost use Rattle.std.specs.Option.{option_map, option_copied};
     ghost use Rattle.tower_syntax.specs.View.{events_of};
     ghost use Rattle.task_code.specs.Fits.{Fits};
-    ghost use Rattle.task_code.specs.Standing.{is_finished};
+    ghost use Rattle.task_code.specs.Standing.{is_finished, IsReady, IsWaiting};
+    ghost use Rattle.task_code.specs.Run.{mark_of};
+    ghost use Rattle.task_machine.specs.Bits.{words_for, bit};
     ghost use Rattle.task_code.specs.Machine.{HeldBy};
     ghost use Rattle.task_machine.specs.Lock.{free_words_at};
     ghost use Rattle.task_machine.specs.Standing.{standing_of};
-    ghost use Rattle.task_machine.specs.State.{State, Goes, Comes, ready, holds, standing_in, next_entry, start, wrote_last};
+    ghost use Rattle.task_machine.specs.State.{State, Goes, Comes, ready, holds, standing_in, next_entry, start, wrote_last, does_next, turned, first_of};
 
     /// A machine for a program, on an event record that fits it. It takes all memory that the machine ever uses. On a
     /// refusal both arguments are dropped.
@@ -67,9 +70,9 @@ impl Machine {
         requires { Fits program (events_of events) }
         ensures { IfOk result (λ m. m ≡ start program events) }
     {
-        let ready = vec![in alloc; false; program.tasks().len()]?;
         let running = Running::new(alloc, program, events)?;
-        Ok(Machine { running, ready })
+        let noted = Noted::new(alloc, &running)?;
+        Ok(Machine { running, noted })
     }
 
     /// The task that the rule names for the number `k` executes one instruction. `NoneReady` comes exactly where no
@@ -83,11 +86,24 @@ impl Machine {
         ensures program { self.new.program ≡ self.old.program }
         ensures events { self.new.events ≡ self.old.events }
     {
-        note_ready(&self.running, &mut self.ready);
-        match policy.pick(self.ready.as_slice(), self.running.holds(), k) {
-            Some(x) => Went::Stepped(self.running.turn(x)),
+        match policy.pick(self.noted.ready(), self.running.holds(), k) {
+            Some(x) => Went::Stepped(self.step(x)),
             None => Went::NoneReady,
         }
+    }
+
+    /// A task that is ready executes its next instruction. Answers the mark that this makes.
+    fn step(&mut self, x: u32) -> Option<Mark>
+        requires task { x < length self.old.program.tasks }
+        requires ready { standing_in self.old x ≡ IsReady }
+        ensures state { self.new ≡ turned self.old x (does_next self.old x) }
+        ensures mark { result ≡ first_of (mark_of x (does_next self.old x)) }
+    {
+        let action = self.noted.action(&self.running, x as usize);
+        let touched = self.running.touched(x as usize, action);
+        let mark = self.running.turn(x, action);
+        self.noted.settle(&self.running, x as usize, touched);
+        mark
     }
 
     /// The next entry of the record comes. `NoMore` comes exactly at the record's end, and changes nothing. `Arrived`
@@ -97,7 +113,13 @@ impl Machine {
         ensures program { self.new.program ≡ self.old.program }
         ensures events { self.new.events ≡ self.old.events }
     {
-        self.running.event()
+        match self.running.event() {
+            Some(arrival) => {
+                self.noted.reach(&self.running, arrival);
+                Came::Arrived
+            }
+            None => Came::NoMore,
+        }
     }
 
     /// How a task stands.
@@ -105,14 +127,32 @@ impl Machine {
         requires { task < length self.now.program.tasks }
         ensures { standing_of result ≡ standing_in self.now task }
     {
-        self.running.standing(task as usize)
+        self.noted.standing(&self.running, task as usize)
+    }
+
+    /// For each task whether it is ready. It takes no memory.
+    pub fn ready(&self) -> &[bool]
+        ensures ready { result.now ≡ ready self.now }
+        ensures count { length result.now ≡ length self.now.program.tasks }
+    {
+        self.noted.ready()
+    }
+
+    /// Which tasks wait for a monitor: task t has the bit t modulo 64, counted from the lowest, of the word t / 64. Bits
+    /// that are no task's are 0. It takes no memory.
+    pub fn waiters(&self, m: u32) -> &[u64]
+        requires { m < length self.now.program.monitors }
+        ensures count { length result.now ≡ words_for (length self.now.program.tasks) }
+        ensures bits { (t : ℕ) → (bit result.now t ≡ 1) ↔ (standing_in self.now t ≡ IsWaiting m) }
+    {
+        self.noted.waiters(&self.running, m as usize)
     }
 
     /// Is a task ready.
     pub fn is_any_ready(&self) -> bool
         ensures { result ≡ list_any (λ b. b) (ready self.now) }
     {
-        is_any_ready(&self.running)
+        self.noted.ready().iter().any(|ready| *ready)
     }
 
     /// The words of a monitor. `None` comes exactly where a task holds its lock.
@@ -137,7 +177,7 @@ impl Machine {
     pub fn finished(&self) -> bool
         ensures { result ≡ is_finished self.now.program (events_of self.now.events) self.now.machine }
     {
-        self.running.is_finished()
+        self.running.has_ended() && self.noted.are_idle(&self.running)
     }
 
     /// The task of the last step and whether its instruction was visible. `None` comes exactly where the last step
@@ -163,28 +203,5 @@ impl Machine {
         ensures { result ≡ slice_index self.now.machine.lost source }
     {
         self.running.lost(source as usize)
-    }
-}
-
-/// Is a task ready.
-fn is_any_ready(running: &Running) -> bool
-    ensures { result ≡ list_any (λ b. b) (ready running.now) }
-{
-    let clear = running.inits_clear();
-    let mut any = false;
-    for task in 0..running.holds().len() {
-        any |= running.stands(task, clear).is_ready();
-    }
-    any
-}
-
-/// Notes which tasks are ready.
-fn note_ready(running: &Running, flags: &mut Vec<bool>)
-    requires { length flags.old.items ≡ length running.now.program.tasks }
-    ensures { flags.new.items ≡ ready running.now }
-{
-    let clear = running.inits_clear();
-    for x in 0..flags.len() {
-        flags[x] = running.stands(x, clear).is_ready();
     }
 }

@@ -2,10 +2,9 @@ ghost use Rattle.std.specs.Prelude.{◌≡◌, Some, take, drop};
 ghost use Rattle.task_code.specs.Does.{is_take};
 
 use crate::action::{Action, Change};
-use crate::arrival::{bring, bring_tick};
+use crate::arrival::{bring, bring_tick, is_due};
 use crate::execute::next;
 use crate::lock::Lock;
-use crate::machine::Came;
 use crate::message::Message;
 use crate::own::Own;
 use crate::queue::Queue;
@@ -102,22 +101,37 @@ impl Running {
 }
 
 impl Running {
-    ghost use Rattle.std.specs.Prelude.{◌≡◌, ◌+◌, ◌<◌, ◌^◌, length, slice_get, Some};
+    ghost use Rattle.std.specs.Prelude.{◌≡◌, ◌+◌, ◌<◌, ◌^◌, length, slice_get, Some, IfSome};
     ghost use Rattle.task_code.specs.declared.program.Task.{Task};
     ghost use Rattle.task_code.specs.Own.{Own as OwnPart};
     ghost use Rattle.task_machine.specs.Action.{effect, changed, HasRoom, IsWithin, CanGoOn};
     ghost use Rattle.task_machine.specs.State.{does_next, turned};
+    ghost use Rattle.task_machine.specs.Noted.{IsNext, touched_by};
 
     /// What the next instruction of a task comes to.
     pub fn action(&self, x: usize) -> Action
         requires { x < length self.now.program.tasks }
-        ensures effect { (own : OwnPart) → slice_get self.now.machine.tasks x ≡ Some own → effect result own ≡ does_next self.now x }
-        ensures within { (own : OwnPart) → (t : Task) → slice_get self.now.program.tasks x ≡ Some t → slice_get self.now.machine.tasks x ≡ Some own → IsWithin self.now.program t own result }
-        ensures place { (own : OwnPart) → slice_get self.now.machine.tasks x ≡ Some own → CanGoOn own result }
-        ensures part { x < length self.now.machine.tasks }
+        ensures { IsNext self.now x result }
     {
         let task = &self.program.tasks()[x];
         next(&self.tasks[x], &self.program, task)
+    }
+
+    /// The monitor whose lock the next instruction of a task takes or gives back.
+    pub fn touched(&self, x: usize, action: Action) -> Option<u32>
+        requires task { x < length self.now.program.tasks }
+        requires next { IsNext self.now x action }
+        ensures monitor { result ≡ touched_by (does_next self.now x) }
+        ensures below { IfSome result (λ m. m < length self.now.program.monitors) }
+    {
+        match action {
+            Action::Lock(monitor) => Some(monitor),
+            Action::Unlock => self.holds[x],
+            Action::Stuck => None,
+            Action::Private(_) => None,
+            Action::Take(_) => None,
+            Action::Out(_, _, _) => None,
+        }
     }
 }
 
@@ -159,6 +173,13 @@ impl Running {
         x < self.queues.len() && !self.queues[x].waiting.is_empty()
     }
 
+    /// The number of monitors.
+    pub fn monitors(&self) -> usize
+        ensures { result ≡ length self.now.program.monitors }
+    {
+        self.program.monitors().len()
+    }
+
     /// Is the lock of a monitor free.
     pub fn is_free(&self, m: usize) -> bool
         ensures { result ≡ is_ready (at_lock m (slice_get self.now.machine.locks m)) }
@@ -169,14 +190,18 @@ impl Running {
     /// Is a task at TAKE, with an empty queue.
     pub fn is_clear(&self, x: usize) -> bool
         requires { x < length self.now.program.tasks }
-        ensures { (t : Task) → (own : OwnPart) → slice_get self.now.program.tasks x ≡ Some t → slice_get self.now.machine.tasks x ≡ Some own → result ≡ is_clear t own (queue self.now.machine x) }
+        ensures clear { (t : Task) → (own : OwnPart) → slice_get self.now.program.tasks x ≡ Some t → slice_get self.now.machine.tasks x ≡ Some own → result ≡ is_clear t own (queue self.now.machine x) }
+        ensures part { x < length self.now.machine.tasks }
+        ensures queue { x < length self.now.machine.queues }
     {
-        !self.has_message(x) && self.is_at_take(x)
+        self.is_at_take(x) && !self.has_message(x)
     }
 
     fn is_at_take(&self, x: usize) -> bool
         requires { x < length self.now.program.tasks }
-        ensures { (t : Task) → (own : OwnPart) → slice_get self.now.program.tasks x ≡ Some t → slice_get self.now.machine.tasks x ≡ Some own → result ≡ at_take t own }
+        ensures at { (t : Task) → (own : OwnPart) → slice_get self.now.program.tasks x ≡ Some t → slice_get self.now.machine.tasks x ≡ Some own → result ≡ at_take t own }
+        ensures part { x < length self.now.machine.tasks }
+        ensures queue { x < length self.now.machine.queues }
     {
         let task = &self.program.tasks()[x];
         match sqlite_items::at(task.code.as_slice(), self.tasks[x].place()) {
@@ -379,15 +404,17 @@ impl Running {
     ghost use Rattle.task_code.specs.Run.{mark_of};
     ghost use Rattle.task_code.specs.Standing.{IsReady};
     ghost use Rattle.task_machine.specs.State.{standing_in, does_next, turned, first_of};
+    ghost use Rattle.task_machine.specs.Noted.{IsNext};
 
-    /// A task that is ready executes its next instruction. Answers the mark that this makes.
-    pub fn turn(&mut self, x: u32) -> Option<Mark>
+    /// A task that is ready executes its next instruction, which comes to this. Answers the mark that this makes.
+    pub fn turn(&mut self, x: u32, action: Action) -> Option<Mark>
         requires task { x < length self.old.program.tasks }
+        requires next { IsNext self.old x action }
         requires ready { standing_in self.old x ≡ IsReady }
         ensures state { self.new ≡ turned self.old x (does_next self.old x) }
         ensures mark { result ≡ first_of (mark_of x (does_next self.old x)) }
     {
-        match self.action(x as usize) {
+        match action {
             Action::Stuck => unreachable!(),
             Action::Private(change) => {
                 self.change(x, change);
@@ -415,34 +442,44 @@ impl Running {
 
 /// What the next entry of the record is.
 #[derive(Clone, Copy, Debug)]
-enum Arrival {
+pub enum Arrival {
     Tick,
     Signal(u32),
 }
 
 impl Running {
-    ghost use Rattle.std.specs.Prelude.{◌≡◌, Some};
+    ghost use Rattle.std.specs.Prelude.{◌≡◌, ◌<◌, Some, length};
     ghost use Rattle.tower_types.specs.Value.{Value};
     ghost use Rattle.tower_syntax.specs.Arch.{tick, signal};
     ghost use Rattle.task_machine.specs.State.{Comes, arrived, next_entry};
-    ghost use Rattle.task_machine.specs.Arriving.{IsArrival, IsSignal};
+    ghost use Rattle.task_machine.specs.Arriving.{IsArrival, IsSignal, Stays, reaches, came_of};
 
     /// The next entry of the record comes, if there is one.
-    pub fn event(&mut self) -> Came
-        ensures step { Comes self.old (next_entry self.old) result self.new }
-        ensures program { self.new.program ≡ self.old.program }
-        ensures events { self.new.events ≡ self.old.events }
+    pub fn event(&mut self) -> Option<Arrival>
+        ensures step { Comes self.old (next_entry self.old) (came_of result) self.new }
+        ensures stays { Stays (reaches result self.new) self.old self.new }
     {
         match self.next_arrival() {
-            None => Came::NoMore,
+            None => None,
             Some(Arrival::Tick) => {
                 self.tick();
-                Came::Arrived
+                Some(Arrival::Tick)
             }
             Some(Arrival::Signal(x)) => {
                 self.signal(x);
-                Came::Arrived
+                Some(Arrival::Signal(x))
             }
+        }
+    }
+
+    /// Did an entry that has come bring a message to a source, also one that was dropped.
+    pub fn is_reached(&self, arrival: Arrival, x: usize) -> bool
+        requires { x < length self.now.program.tasks }
+        ensures { result ≡ reaches (Some arrival) self.now x }
+    {
+        match arrival {
+            Arrival::Tick => is_due(self.ticks, self.events.kinds.as_slice()[x]),
+            Arrival::Signal(y) => y as usize == x,
         }
     }
 
@@ -458,7 +495,8 @@ impl Running {
 
     fn tick(&mut self)
         requires { next_entry self.old ≡ Some tick }
-        ensures { self.new ≡ arrived self.old tick }
+        ensures step { self.new ≡ arrived self.old tick }
+        ensures stays { Stays (reaches (Some Arrival.Tick) self.new) self.old self.new }
     {
         prove!(self.place < self.events.entries.len());
         self.ticks += 1;
@@ -475,8 +513,7 @@ impl Running {
     fn signal(&mut self, x: u32)
         requires { IsSignal x (next_entry self.old) }
         ensures step { (v : Value) → next_entry self.old ≡ Some (signal x v) → self.new ≡ arrived self.old (signal x v) }
-        ensures program { self.new.program ≡ self.old.program }
-        ensures events { self.new.events ≡ self.old.events }
+        ensures stays { Stays (reaches (Some (Arrival.Signal x)) self.new) self.old self.new }
     {
         prove!(self.place < self.events.entries.len());
         match self.messages.pop_front() {

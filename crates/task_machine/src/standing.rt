@@ -44,16 +44,16 @@ impl Standing {
 impl Running {
     ghost use Rattle.std.specs.Prelude.{◌≡◌, ◌<◌, ◌&&◌, not, length, slice_get};
     ghost use Rattle.tower_syntax.specs.View.{events_of};
-    ghost use Rattle.task_code.specs.Standing.{is_finished, is_idle, standings, inits_clear, at_queue, at_lock, kind_at};
-    ghost use Rattle.std.specs.List.{list_all};
+    ghost use Rattle.task_code.specs.Standing.{inits_clear, at_queue, at_lock, kind_at};
     ghost use Rattle.tower_syntax.specs.Arrival.{is_init};
     ghost use Rattle.task_code.specs.Machine.{queue};
-    ghost use Rattle.task_machine.specs.State.{standing_in};
+    ghost use Rattle.task_machine.specs.State.{does_next};
+    ghost use Rattle.task_machine.specs.Noted.{IsNext, clear_in, stands_by};
     ghost use Rattle.task_machine.specs.Standing.{standing_of};
 
     /// Is the task of each initialisation at TAKE, with an empty queue.
     pub fn inits_clear(&self) -> bool
-        ensures { result ≡ inits_clear (events_of self.now.events).kinds self.now.program.tasks self.now.machine.tasks self.now.machine.queues }
+        ensures { result ≡ clear_in self.now }
     {
         for x in 0..self.sources() {
             if self.is_init(x) && !self.is_clear(x) {
@@ -63,13 +63,13 @@ impl Running {
         true
     }
 
-    /// How a task stands, where it is known if the initialisation is over.
-    pub fn stands(&self, x: usize, clear: bool) -> Standing
+    /// How a task stands whose next instruction comes to this, where it is known whether the initialisation is over.
+    pub fn stands(&self, x: usize, action: Action, clear: bool) -> Standing
         requires task { x < length self.now.program.tasks }
-        requires clear { clear ≡ inits_clear (events_of self.now.events).kinds self.now.program.tasks self.now.machine.tasks self.now.machine.queues }
-        ensures { standing_of result ≡ standing_in self.now x }
+        requires next { IsNext self.now x action }
+        ensures { standing_of result ≡ stands_by clear self.now x (does_next self.now x) }
     {
-        match self.action(x) {
+        match action {
             Action::Stuck => Standing::Stuck,
             Action::Private(_) => Standing::Ready,
             Action::Take(_) => self.stands_at_take(x, clear),
@@ -97,33 +97,5 @@ impl Running {
         } else {
             Standing::Waiting(m)
         }
-    }
-
-    /// How a task stands.
-    pub fn standing(&self, x: usize) -> Standing
-        requires { x < length self.now.program.tasks }
-        ensures { standing_of result ≡ standing_in self.now x }
-    {
-        let clear = self.inits_clear();
-        self.stands(x, clear)
-    }
-
-    /// Is the record at its end, with all tasks idle.
-    pub fn is_finished(&self) -> bool
-        ensures { result ≡ is_finished self.now.program (events_of self.now.events) self.now.machine }
-    {
-        self.has_ended() && self.are_idle()
-    }
-
-    fn are_idle(&self) -> bool
-        ensures { result ≡ list_all is_idle (standings self.now.program (events_of self.now.events) self.now.machine) }
-    {
-        let clear = self.inits_clear();
-        for x in 0..self.sources() {
-            if !self.stands(x, clear).is_idle() {
-                return false;
-            }
-        }
-        true
     }
 }

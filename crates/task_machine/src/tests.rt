@@ -140,9 +140,11 @@ fn stands_and_holds(rt: HostRuntime) -> Result<(), Fail> {
     ten_come(&rt, &mut machine);
     assert!(rt; machine.last().is_none());
     assert!(rt; machine.standing(0) == Standing::Ready);
+    assert!(rt; machine.ready() == [true].as_slice());
     let _ = machine.go(&policy, 7);
     let _ = machine.go(&policy, 8);
     assert!(rt; machine.holds() == [Some(0)].as_slice());
+    assert!(rt; machine.waiters(0) == [0].as_slice());
     assert!(rt; machine.last() == Some((0, true)));
     Ok(())
 }

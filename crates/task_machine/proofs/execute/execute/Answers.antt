@@ -90,7 +90,8 @@ returns-in-Take-clause-within c =
 
 pub returns-in-Lock-clause-within : goal.returns-in-Lock-clause-within
 returns-in-Lock-clause-within c =
-    c.lock.ensures.within c.args.program.now c.args.task.now
+    let P : Instr → Type 0 = IsInstr c.args.program.now c.args.task.now in
+    c.lock.ensures.within c.args.program.now c.args.task.now (subst P c.in-Lock.is c.requires)
 
 pub returns-in-Out-clause-within : goal.returns-in-Out-clause-within
 returns-in-Out-clause-within c =

@@ -9,7 +9,7 @@ returns-then-not-is_clear c =
     let tasks : c.loop-x.x < length c.args.self.now.program.tasks = rw (← c.sources-x-end.ensures.tasks) c.loop-x-test.true in
     let owns : c.loop-x.x < length c.args.self.now.machine.tasks = rw (← c.sources-x-end.ensures.parts) c.loop-x-test.true in
     let queues : c.loop-x.x < length c.args.self.now.machine.queues = rw (← c.sources-x-end.ensures.queues) c.loop-x-test.true in
-    sym (clear_ends c.args.self.now.events.kinds c.args.self.now.program.tasks c.args.self.now.machine.tasks c.args.self.now.machine.queues c.loop-x.x kinds tasks owns queues c.is_clear.result c.is_clear.ensures (sym c.if-is_init.ensures) c.if-not-is_clear.true) ∙ c.loop-x.invariant
+    sym (clear_ends c.args.self.now.events.kinds c.args.self.now.program.tasks c.args.self.now.machine.tasks c.args.self.now.machine.queues c.loop-x.x kinds tasks owns queues c.is_clear.result c.is_clear.ensures.clear (sym c.if-is_init.ensures) c.if-not-is_clear.true) ∙ c.loop-x.invariant
 
 pub loop-x-preserved : goal.loop-x-preserved
 loop-x-preserved c =
@@ -19,7 +19,7 @@ loop-x-preserved c =
     let queues : c.loop-x.x < length c.args.self.now.machine.queues = rw (← c.sources-x-end.ensures.queues) c.loop-x-test.true in
     let e : clear_from c.args.self.now.events.kinds c.args.self.now.program.tasks c.args.self.now.machine.tasks c.args.self.now.machine.queues c.loop-x.x ≡ clear_from c.args.self.now.events.kinds c.args.self.now.program.tasks c.args.self.now.machine.tasks c.args.self.now.machine.queues (suc c.loop-x.x) = elim c.else-is_init.branch [
       | else-is_init-via-then-is_init+else-not-is_clear w ↦
-          clear_goes_on c.args.self.now.events.kinds c.args.self.now.program.tasks c.args.self.now.machine.tasks c.args.self.now.machine.queues c.loop-x.x kinds tasks owns queues w.is_clear.result w.is_clear.ensures (sym c.is_init.ensures ∙ w.if-is_init.true) w.if-not-is_clear.false
+          clear_goes_on c.args.self.now.events.kinds c.args.self.now.program.tasks c.args.self.now.machine.tasks c.args.self.now.machine.queues c.loop-x.x kinds tasks owns queues w.is_clear.result w.is_clear.ensures.clear (sym c.is_init.ensures ∙ w.if-is_init.true) w.if-not-is_clear.false
       | else-is_init-via-else-is_init w ↦
           clear_skips c.args.self.now.events.kinds c.args.self.now.program.tasks c.args.self.now.machine.tasks c.args.self.now.machine.queues c.loop-x.x kinds tasks owns queues (sym c.is_init.ensures ∙ w.if-is_init.false)
     ] in

@@ -3,7 +3,7 @@ use Rattle.tower_types.specs.Value.{flat}
 use Rattle.tower_syntax.specs.Arch.{signal}
 use Rattle.tower_syntax.specs.View.{events_of}
 use Rattle.task_machine.specs.Kept.{signals}
-use Rattle.task_machine.proofs.Arriving.{is_signal, next_messages, signal_room, kept_signal, received_signal}
+use Rattle.task_machine.proofs.Arriving.{is_signal, next_messages, signal_room, kept_signal, received_signal, signal_stays}
 use Rattle.task_machine.proofs.running.Running.signal.Goals as goal
 
 pub bring-requires-clause-room : goal.bring-requires-clause-room
@@ -41,3 +41,8 @@ returns-clause-step c = λ v e.
     let e' = received_signal (events_of c.self.inside.events) c.self.inside.tasks.items c.self.inside.locks.items c.self.inside.queues.items c.bring.new.queues.items c.self.inside.place
     c.args.x v machine in
     rw (← c.self.view_is, ← e') refl
+
+pub returns-clause-stays : goal.returns-clause-stays
+returns-clause-stays c =
+    let is = is_signal c.args.x (slice_get (events_of c.self.inside.events).entries c.self.inside.place) (rw (← c.self.view_is) at c.requires) in
+    rw (← c.self.view_is) (signal_stays c.self.invariant.kept c.bring.new.queues.items c.self.inside.last c.bring.ensures.count c.args.x is.0 is.1 c.bring.ensures.others)
