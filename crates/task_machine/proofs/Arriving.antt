@@ -1,7 +1,6 @@
 -- What a running machine keeps when an entry of the record comes.
 use Rattle.std.proofs.Common.{◌≡◌, ℕ, zero, suc, ◌+◌, ◌<◌, ◌≤◌, ◌^◌, ℤ, pos, Bool, true, false, cond, List, [], ◌∷◌, ◌++◌, length, take, drop, Option, Some, None, slice_get, map, refl, ap, sym, ◌∙◌, subst, arith, add-one, inl, inr, length-append}
 use Rattle.std.specs.Prelude.{fold, All, ◌==◌}
-use Rattle.std.specs.VecDeque.{deque_capacity}
 use Rattle.std.proofs.lemmas.Bool.{cases_eq}
 use Rattle.std.proofs.lemmas.Bool.Decides.{nat_tests}
 use Rattle.std.proofs.lemmas.List.Elements.{All-push}
@@ -19,7 +18,7 @@ use Rattle.task_code.specs.Program.{Program}
 use Rattle.task_code.specs.Fits.{FitsKind, FitsSignal, FitsEntry}
 use Rattle.task_code.specs.Own.{Own}
 use Rattle.task_code.specs.Machine.{Lock, Machine, bring, received}
-use Rattle.task_machine.specs.Queue.{Queue, waiting, lost, capped, IsQueue}
+use Rattle.task_machine.specs.Queue.{Queue, waiting, lost, capped, is_numbered, IsQueue}
 use Rattle.task_machine.specs.Brought.{with_queues, depth_at, kind_in, CanBring, Brought, tick_messages}
 use Rattle.task_machine.specs.Kept.{IsKept, coming, signals, kind_of, depth_of}
 use Rattle.task_machine.specs.declared.running.Turn.{Turn}
@@ -60,10 +59,11 @@ room_of (Some d) n c room w r f =
     let other : n ≡ d → ⊥ = λ e. let t : (n == d) ≡ true = grind (arith, nat_tests) in let a : true ≡ false = sym t ∙ f in cc in
     omega (arith, other)
 
-pub can_bring : (width : ℕ) (depth : Option ℕ) (c place : ℕ) (q : Queue) → IsQueue width depth (1 + c) place q → place + 1 < 2 ^ 64 → CanBring depth q
-can_bring width depth c place q is h = record {
-  room = room_of depth (length (waiting q)) c (deque_capacity q.waiting) is.within is.room;
+pub can_bring : (width : ℕ) (depth : Option ℕ) (b : Bool) (c place : ℕ) (q : Queue) → IsQueue width depth b (1 + c) place q → place + 1 < 2 ^ 64 → CanBring depth b q
+can_bring width depth b c place q is h = record {
+  room = room_of depth (length (waiting q)) c q.room is.within is.room;
   count = let l = is.few_lost in omega (arith, l, h);
+  kind = is.numbered;
 }
 
 capped_less : (d : Option ℕ) (n c room : ℕ) → capped d (n + (1 + c)) ≤ room → capped d (n + c) ≤ room
@@ -81,37 +81,40 @@ within_more (Some d) n w f =
     omega (arith, other)
 
 -- a queue after one of them came
-by_full : (width : ℕ) (depth : Option ℕ) (c place : ℕ) (q r : Queue) (message : List ℤ) (b : Bool) → is_full depth (length (waiting q)) ≡ b → length message ≡ width
-    → IsQueue width depth (1 + c) place q
-    → waiting r ≡ cond b (waiting q) (waiting q ++ message ∷ []) → lost r ≡ cond b (suc (lost q)) (lost q) → deque_capacity r.waiting ≡ deque_capacity q.waiting
-    → IsQueue width depth c (suc place) r
-by_full width depth c place q r message true f l is w d s =
+by_full : (width : ℕ) (depth : Option ℕ) (k : Bool) (c place : ℕ) (q r : Queue) (message : List ℤ) (b : Bool) → is_full depth (length (waiting q)) ≡ b → length message ≡ width
+    → IsQueue width depth k (1 + c) place q
+    → waiting r ≡ cond b (waiting q) (waiting q ++ message ∷ []) → lost r ≡ cond b (suc (lost q)) (lost q) → r.room ≡ q.room → r.numbered ≡ q.numbered
+    → IsQueue width depth k c (suc place) r
+by_full width depth k c place q r message true f l is w d s m =
     let n : length (waiting r) ≡ length (waiting q) = ap length w in record {
       messages = subst (λ (ms : List (List ℤ)). All (λ m. length m ≡ width) ms) (sym w) is.messages;
       within = rw n is.within;
-      room = rw (n, s) (capped_less depth (length (waiting q)) c (deque_capacity q.waiting) is.room);
+      room = rw (n, s) (capped_less depth (length (waiting q)) c q.room is.room);
       few_lost = let a = is.few_lost in omega (arith, a, d);
+      numbered = m ∙ is.numbered;
     }
-by_full width depth c place q r message false f l is w d s =
+by_full width depth k c place q r message false f l is w d s m =
     let n : length (waiting r) ≡ length (waiting q) + 1 = ap length w ∙ length-append (waiting q) (message ∷ []) in record {
       messages = subst (λ (ms : List (List ℤ)). All (λ m. length m ≡ width) ms) (sym w) (All-push (λ m. length m ≡ width) (waiting q) message is.messages l);
       within = rw n (within_more depth (length (waiting q)) is.within f);
-      room = rw (n, s) (capped_same depth (length (waiting q)) c (deque_capacity q.waiting) is.room);
+      room = rw (n, s) (capped_same depth (length (waiting q)) c q.room is.room);
       few_lost = let a = is.few_lost in omega (arith, a, d);
+      numbered = m ∙ is.numbered;
     }
 
-brought_queue : (width : ℕ) (depth : Option ℕ) (c place : ℕ) (q r : Queue) (message : List ℤ) → length message ≡ width
-    → IsQueue width depth (1 + c) place q → Brought depth message q r → IsQueue width depth c (suc place) r
-brought_queue width depth c place q r message l is b =
-    by_full width depth c place q r message (is_full depth (length (waiting q))) refl l is b.waits b.drops b.capacity
+brought_queue : (width : ℕ) (depth : Option ℕ) (k : Bool) (c place : ℕ) (q r : Queue) (message : List ℤ) → length message ≡ width
+    → IsQueue width depth k (1 + c) place q → Brought depth message q r → IsQueue width depth k c (suc place) r
+brought_queue width depth k c place q r message l is b =
+    by_full width depth k c place q r message (is_full depth (length (waiting q))) refl l is b.waits b.drops b.room b.kind
 
 -- and one to which none came
-passed_queue : (width : ℕ) (depth : Option ℕ) (c place : ℕ) (q : Queue) → IsQueue width depth (0 + c) place q → IsQueue width depth c (suc place) q
-passed_queue width depth c place q is = record {
+passed_queue : (width : ℕ) (depth : Option ℕ) (b : Bool) (c place : ℕ) (q : Queue) → IsQueue width depth b (0 + c) place q → IsQueue width depth b c (suc place) q
+passed_queue width depth b c place q is = record {
   messages = is.messages;
   within = is.within;
   room = let e : 0 + c ≡ c = omega arith in rw e at is.room;
   few_lost = let a = is.few_lost in omega (arith, a);
+  numbered = is.numbered;
 }
 
 -- a message of a tick is one word
@@ -129,18 +132,29 @@ coming_signal : (kind : SourceKind) (x y k place : ℕ) (v : Value) (es : List E
 coming_signal kind x y k place v es at = rw (drop_at es place (signal y v) at) refl
 
 tick_queue : (t : Task) (kind : SourceKind) (depth : Option ℕ) (k c place : ℕ) (q r : Queue) (b : Bool) → is_due (suc k) kind ≡ b → FitsKind kind t depth
-    → IsQueue t.message depth (cond b 1 0 + c) place q → (is_due (suc k) kind ≡ true → Brought depth (pos (suc k) ∷ []) q r) → (is_due (suc k) kind ≡ false → r ≡ q)
-    → IsQueue t.message depth c (suc place) r
+    → IsQueue t.message depth (is_numbered kind) (cond b 1 0 + c) place q → (is_due (suc k) kind ≡ true → Brought depth (pos (suc k) ∷ []) q r) → (is_due (suc k) kind ≡ false → r ≡ q)
+    → IsQueue t.message depth (is_numbered kind) c (suc place) r
 tick_queue t kind depth k c place q r true due fits is comes stays =
-    brought_queue t.message depth c place q r (pos (suc k) ∷ []) (sym (period_width kind (suc k) t depth fits due)) is (comes due)
+    brought_queue t.message depth (is_numbered kind) c place q r (pos (suc k) ∷ []) (sym (period_width kind (suc k) t depth fits due)) is (comes due)
 tick_queue t kind depth k c place q r false due fits is comes stays =
-    subst (λ (z : Queue). IsQueue t.message depth c (suc place) z) (sym (stays due)) (passed_queue t.message depth c place q is)
+    subst (λ (z : Queue). IsQueue t.message depth (is_numbered kind) c (suc place) z) (sym (stays due)) (passed_queue t.message depth (is_numbered kind) c place q is)
 
 -- the signal that an entry is
 pub is_signal : (x : ℕ) (o : Option Entry) → IsSignal x o → (v : Value) × (o ≡ Some (signal x v))
 is_signal x None h = absurd h
 is_signal x (Some tick) h = absurd h
 is_signal x (Some (signal y v)) h = (v, ap (λ (z : ℕ). Some (signal z v)) h)
+
+signal_only : (v : Value) (k : Option SourceKind) (o : Option Task) → FitsSignal v k o → k ≡ Some kind.Signal
+signal_only v None o h = absurd h
+signal_only v (Some kind.Init) o h = absurd h
+signal_only v (Some (kind.Period ms)) o h = absurd h
+signal_only v (Some kind.Signal) o h = refl
+
+due_numbered : (k : ℕ) (kind : SourceKind) → is_due k kind ≡ true → is_numbered kind ≡ true
+due_numbered k kind.Init e = cc
+due_numbered k (kind.Period ms) e = refl
+due_numbered k kind.Signal e = cc
 
 fits_signal : (v : Value) (k : Option SourceKind) (o : Option Task) → FitsSignal v k o → (t : Task) × (o ≡ Some t) × (length (flat v) ≡ t.message)
 fits_signal v None o h = absurd h
@@ -149,18 +163,18 @@ fits_signal v (Some (kind.Period ms)) o h = absurd h
 fits_signal v (Some kind.Signal) None h = absurd h
 fits_signal v (Some kind.Signal) (Some t) h = (t, refl, h.0)
 
-signal_queue : (t : Task) (depth : Option ℕ) (x y c place : ℕ) (q r : Queue) (message : List ℤ)
-    → (y ≡ x → length message ≡ t.message) → IsQueue t.message depth (cond (x == y) 1 0 + c) place q
+signal_queue : (t : Task) (depth : Option ℕ) (b : Bool) (x y c place : ℕ) (q r : Queue) (message : List ℤ)
+    → (y ≡ x → length message ≡ t.message) → IsQueue t.message depth b (cond (x == y) 1 0 + c) place q
     → (y ≡ x → Brought depth message q r) → ((y ≡ x → ⊥) → r ≡ q)
-    → IsQueue t.message depth c (suc place) r
-signal_queue t depth x y c place q r message width is comes stays =
+    → IsQueue t.message depth b c (suc place) r
+signal_queue t depth b x y c place q r message width is comes stays =
     elim (cases_eq y x) [
       | inl here ↦
           let e : (x == y) ≡ true = grind (arith, nat_tests) in
-          brought_queue t.message depth c place q r message (width here) (rw e at is) (comes here)
+          brought_queue t.message depth b c place q r message (width here) (rw e at is) (comes here)
       | inr other ↦
           let e : (x == y) ≡ false = grind (arith, nat_tests) in
-          subst (λ (z : Queue). IsQueue t.message depth c (suc place) z) (sym (stays other)) (passed_queue t.message depth c place q (rw e at is))
+          subst (λ (z : Queue). IsQueue t.message depth b c (suc place) z) (sym (stays other)) (passed_queue t.message depth b c place q (rw e at is))
     ]
 
 module _ {p : Program} {events : Events} {owns : List Own} {locks : List Lock} {qs : List Queue} {messages : List (List ℤ)} {held : List (Option ℕ)} {k place : ℕ}
@@ -172,15 +186,16 @@ module _ {p : Program} {events : Events} {owns : List Own} {locks : List Lock} {
       let in_depths : x < length events.depths = let e = kept.fits.depths in omega (arith, in_kinds, e) in
       kept.fits.sources x (kind_of events x) t (depth_of events x) (get_at events.kinds x kind.Signal in_kinds) at (get_at events.depths x None in_depths)
 
-  pub tick_room : slice_get events.entries place ≡ Some tick → place + 1 < 2 ^ 64 → (x : ℕ) (q : Queue) → slice_get qs x ≡ Some q → is_due (k + 1) (kind_in events.kinds x) ≡ true → CanBring (depth_at events.depths x) q
+  pub tick_room : slice_get events.entries place ≡ Some tick → place + 1 < 2 ^ 64 → (x : ℕ) (q : Queue) → slice_get qs x ≡ Some q → is_due (k + 1) (kind_in events.kinds x) ≡ true → CanBring (depth_at events.depths x) true q
   tick_room here h x q at due =
       let a = get_within qs x q at in
       let in_tasks : x < length p.tasks = let e = kept.queues_count in omega (arith, a, e) in
       let t = get_exists p.tasks x in_tasks in
       let is = kept.queues x t.0 q t.1 at in
       let due' : is_due (suc k) (kind_of events x) ≡ true = rw add-one at due in
-      can_bring t.0.message (depth_of events x) (coming (kind_of events x) x (suc k) (drop (suc place) events.entries)) place q
-      (rw (coming_tick (kind_of events x) x k place events.entries here, due') at is) h
+      let can = can_bring t.0.message (depth_of events x) (is_numbered (kind_of events x)) (coming (kind_of events x) x (suc k) (drop (suc place) events.entries)) place q
+      (rw (coming_tick (kind_of events x) x k place events.entries here, due') at is) h in
+      subst (λ (b : Bool). CanBring (depth_of events x) b q) (due_numbered (suc k) (kind_of events x) due') can
 
   pub kept_tick : (later : List Queue) → slice_get events.entries place ≡ Some tick → length later ≡ length qs
       → ((x : ℕ) (q r : Queue) → slice_get qs x ≡ Some q → slice_get later x ≡ Some r → is_due (k + 1) (kind_in events.kinds x) ≡ true → Brought (depth_at events.depths x) (pos (k + 1) ∷ []) q r)
@@ -219,6 +234,13 @@ module _ {p : Program} {events : Events} {owns : List Own} {locks : List Lock} {
       let fits : FitsEntry events.kinds p.tasks (signal x v) = subst P (get_some events.entries place tick (signal x v) here) (kept.fits.entries place tick a) in
       fits_signal v (slice_get events.kinds x) (slice_get p.tasks x) fits
 
+  signal_kind : (x : ℕ) (v : Value) → slice_get events.entries place ≡ Some (signal x v) → kind_of events x ≡ kind.Signal
+  signal_kind x v here =
+      let a = get_within events.entries place (signal x v) here in
+      let P : Entry → Type 0 = FitsEntry events.kinds p.tasks in
+      let fits : FitsEntry events.kinds p.tasks (signal x v) = subst P (get_some events.entries place tick (signal x v) here) (kept.fits.entries place tick a) in
+      get_some events.kinds x kind.Signal kind.Signal (signal_only v (slice_get events.kinds x) (slice_get p.tasks x) fits)
+
   pub signal_source : (x : ℕ) (v : Value) → slice_get events.entries place ≡ Some (signal x v) → x < length qs
   signal_source x v here =
       let t = signal_fits x v here in
@@ -226,13 +248,14 @@ module _ {p : Program} {events : Events} {owns : List Own} {locks : List Lock} {
       let e = kept.queues_count in
       omega (arith, a, e)
 
-  pub signal_room : (x : ℕ) (v : Value) → slice_get events.entries place ≡ Some (signal x v) → place + 1 < 2 ^ 64 → (q : Queue) → slice_get qs x ≡ Some q → CanBring (depth_at events.depths x) q
+  pub signal_room : (x : ℕ) (v : Value) → slice_get events.entries place ≡ Some (signal x v) → place + 1 < 2 ^ 64 → (q : Queue) → slice_get qs x ≡ Some q → CanBring (depth_at events.depths x) false q
   signal_room x v here h q at =
       let t = signal_fits x v here in
       let is = kept.queues x t.0 q t.1 at in
       let e : (x == x) ≡ true = grind (arith, nat_tests) in
-      can_bring t.0.message (depth_of events x) (coming (kind_of events x) x k (drop (suc place) events.entries)) place q
-      (rw (coming_signal (kind_of events x) x x k place v events.entries here, e) at is) h
+      let can = can_bring t.0.message (depth_of events x) (is_numbered (kind_of events x)) (coming (kind_of events x) x k (drop (suc place) events.entries)) place q
+      (rw (coming_signal (kind_of events x) x x k place v events.entries here, e) at is) h in
+      subst (λ (b : Bool). CanBring (depth_of events x) b q) (ap is_numbered (signal_kind x v here)) can
 
   pub next_messages : (x : ℕ) (v : Value) → slice_get events.entries place ≡ Some (signal x v) → messages ≡ flat v ∷ signals (drop (suc place) events.entries)
   next_messages x v here = kept.to_come ∙ rw (drop_at events.entries place (signal x v) here) refl
@@ -262,19 +285,13 @@ module _ {p : Program} {events : Events} {owns : List Own} {locks : List Lock} {
         subst (λ (z : ℕ). Brought (depth_of events z) (flat v) q.0 r) (sym same) (comes q.0 r (ap (slice_get qs) (sym same) ∙ q.1) (ap (slice_get later) (sym same) ∙ there)) in
         let stay : (y ≡ x → ⊥) → r ≡ q.0 = λ other.
         let f : Some r ≡ Some q.0 = sym there ∙ stays y other ∙ q.1 in cc in
-        signal_queue t (depth_of events y) x y (coming (kind_of events y) y k (drop (suc place) events.entries)) place q.0 r (flat v) width is come stay;
+        signal_queue t (depth_of events y) (is_numbered (kind_of events y)) x y (coming (kind_of events y) y k (drop (suc place) events.entries)) place q.0 r (flat v) width is come stay;
     to_come = left;
     holds = kept.holds;
     below = kept.below;
     count = let c = kept.count in sym (ticks_more events.entries place (signal x v) here ∙ omega (arith, c));
     at = get_within events.entries place (signal x v) here;
   })
-
-signal_only : (v : Value) (k : Option SourceKind) (o : Option Task) → FitsSignal v k o → k ≡ Some kind.Signal
-signal_only v None o h = absurd h
-signal_only v (Some kind.Init) o h = absurd h
-signal_only v (Some (kind.Period ms)) o h = absurd h
-signal_only v (Some kind.Signal) o h = refl
 
 init_not_due : (k : ℕ) (kind : SourceKind) → is_init kind ≡ true → is_due k kind ≡ false
 init_not_due k kind.Init e = refl
@@ -318,11 +335,7 @@ module _ {p : Program} {events : EventsValue} {owns : List Own} {locks : List Lo
     queues = λ y h. alike later qs y (stays y (λ e. let f : (x == y) ≡ true = grind (arith, nat_tests) in let a : true ≡ false = sym f ∙ h in cc));
     inits = λ y h. elim (cases_eq y x) [
       | inl same ↦
-          let a = get_within (events_of events).entries place (signal x v) here in
-          let P : Entry → Type 0 = FitsEntry (events_of events).kinds p.tasks in
-          let fits : FitsEntry (events_of events).kinds p.tasks (signal x v) = subst P (get_some (events_of events).entries place tick (signal x v) here) (kept.fits.entries place tick a) in
-          let only = signal_only v (slice_get (events_of events).kinds x) (slice_get p.tasks x) fits in
-          let is : kind_in (events_of events).kinds y ≡ kind.Signal = ap (kind_in (events_of events).kinds) same ∙ get_some (events_of events).kinds x kind.Signal kind.Signal only in
+          let is : kind_in (events_of events).kinds y ≡ kind.Signal = ap (kind_in (events_of events).kinds) same ∙ signal_kind kept x v here in
           let a : true ≡ false = sym h ∙ ap is_init is in
           cc
       | inr o ↦ let other : x ≡ y → ⊥ = λ e. o (sym e) in grind (arith, nat_tests)

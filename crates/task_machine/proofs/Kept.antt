@@ -1,8 +1,7 @@
 -- What a running machine keeps stays, whatever a task does.
-use Rattle.std.proofs.Common.{◌≡◌, ℕ, zero, suc, ◌+◌, ◌<◌, ◌≤◌, ℤ, List, [], ◌∷◌, length, map, drop, Option, Some, None, slice_get, slice_index_or, slice_set, refl, ap, sym, ◌∙◌, subst, arith, inl, inr, length-drop, length-append}
+use Rattle.std.proofs.Common.{◌≡◌, ℕ, zero, suc, ◌+◌, ◌<◌, ◌≤◌, ℤ, Bool, List, [], ◌∷◌, length, map, drop, Option, Some, None, slice_get, slice_index_or, slice_set, refl, ap, sym, ◌∙◌, subst, arith, inl, inr, length-drop, length-append}
 use Rattle.std.specs.Prelude.{All, IsSomeAnd, slice_index}
 use Rattle.std.specs.Option.{option_map}
-use Rattle.std.specs.VecDeque.{deque_capacity}
 use Rattle.std.proofs.Math.ListN.{length-set}
 use Rattle.std.proofs.lemmas.List.{length-take}
 use Rattle.std.proofs.lemmas.List.Elements.{All-drop, All-set}
@@ -19,7 +18,7 @@ use Rattle.task_machine.specs.Policy.{IsBelow}
 use Rattle.task_machine.specs.declared.action.Change.{Change}
 use Rattle.task_machine.specs.declared.action.Change.TheVariants.{Pop, Push, Store, StoreHeld, Jump, Call, Return, Fill, Count}
 use Rattle.task_machine.specs.Action.{changed, with_held_word}
-use Rattle.task_machine.specs.Queue.{Queue, waiting, lost, capped, IsQueue}
+use Rattle.task_machine.specs.Queue.{Queue, waiting, lost, capped, is_numbered, IsQueue}
 use Rattle.task_machine.specs.Kept.{HaveRoom, HasWords, HaveWords, HoldsWords, HoldWords, AreQueues, IsKept, coming, kind_of, depth_of}
 use Rattle.task_machine.proofs.Lists.{get_at, get_some, get_within, set_same, get_map, set_map}
 
@@ -136,9 +135,9 @@ less_within None m n h e = refl
 less_within (Some d) m n h e = omega arith
 
 -- a queue without its oldest message is one
-shorter_queue : (width : ℕ) (depth : Option ℕ) (n place : ℕ) (q rest : Queue) → IsQueue width depth n place q
-    → waiting rest ≡ drop 1 (waiting q) → rest.lost ≡ q.lost → deque_capacity rest.waiting ≡ deque_capacity q.waiting → IsQueue width depth n place rest
-shorter_queue width depth n place q rest is w m r =
+shorter_queue : (width : ℕ) (depth : Option ℕ) (b : Bool) (n place : ℕ) (q rest : Queue) → IsQueue width depth b n place q
+    → waiting rest ≡ drop 1 (waiting q) → lost rest ≡ lost q → rest.room ≡ q.room → rest.numbered ≡ q.numbered → IsQueue width depth b n place rest
+shorter_queue width depth b n place q rest is w m r k =
     let short : length (waiting rest) ≤ length (waiting q) = rw (w, length-drop) (omega arith) in
     let P : List (List ℤ) → Type 0 = All (λ m. length m ≡ width) in
     let less = less_capped depth (length (waiting rest) + n) (length (waiting q) + n) (omega arith) in
@@ -147,18 +146,19 @@ shorter_queue width depth n place q rest is w m r =
       within = less_within depth (length (waiting rest)) (length (waiting q)) short is.within;
       room = let a = is.room in omega (arith, less, r, a);
       few_lost = let a = is.few_lost in omega (arith, m, a);
+      numbered = k ∙ is.numbered;
     }
 
 shorter : (p : Program) (events : Events) (k place : ℕ) (qs : List Queue) (x : ℕ) (q rest : Queue) → AreQueues p events k place qs → slice_get qs x ≡ Some q → x < length qs
-    → waiting rest ≡ drop 1 (waiting q) → rest.lost ≡ q.lost → deque_capacity rest.waiting ≡ deque_capacity q.waiting → AreQueues p events k place (slice_set qs x rest)
-shorter p events k place qs x q rest are at l w m r = λ y t later g there.
+    → waiting rest ≡ drop 1 (waiting q) → lost rest ≡ lost q → rest.room ≡ q.room → rest.numbered ≡ q.numbered → AreQueues p events k place (slice_set qs x rest)
+shorter p events k place qs x q rest are at l w m r n = λ y t later g there.
     elim (cases_eq y x) [
       | inl same ↦
           let f : slice_get (slice_set qs x rest) x ≡ Some later = subst (λ (z : ℕ). slice_get (slice_set qs x rest) z ≡ Some later) same there in
           let e : rest ≡ later = let u = sym (get_set_same qs x rest l) ∙ f in cc in
           let s : slice_get qs y ≡ Some q = subst (λ (z : ℕ). slice_get qs z ≡ Some q) (sym same) at in
           let is = are y t q g s in
-          subst (λ (z : Queue). IsQueue t.message (depth_of events y) (coming (kind_of events y) y k (drop place events.entries)) place z) e (shorter_queue _ _ _ place q rest is w m r)
+          subst (λ (z : Queue). IsQueue t.message (depth_of events y) (is_numbered (kind_of events y)) (coming (kind_of events y) y k (drop place events.entries)) place z) e (shorter_queue _ _ _ _ place q rest is w m r n)
       | inr other ↦ are y t later g (sym (get_set_other qs x y rest other) ∙ there)
     ]
 
@@ -200,10 +200,10 @@ pub waiting_taken : (qs : List Queue) (x : ℕ) (q rest : Queue) → slice_get q
     → map waiting (slice_set qs x rest) ≡ slice_set (map waiting qs) x (drop 1 (slice_index_or (map waiting qs) x []))
 waiting_taken qs x q rest e f = sym (rw (queue_is qs x q e, ← f) (set_map waiting qs x rest))
 
-pub lost_taken : (qs : List Queue) (x : ℕ) (q rest : Queue) → slice_get qs x ≡ Some q → rest.lost ≡ q.lost → map lost (slice_set qs x rest) ≡ map lost qs
+pub lost_taken : (qs : List Queue) (x : ℕ) (q rest : Queue) → slice_get qs x ≡ Some q → lost rest ≡ lost q → map lost (slice_set qs x rest) ≡ map lost qs
 lost_taken qs x q rest e f =
-    let at : slice_get (map lost qs) x ≡ Some rest.lost = get_map lost qs x ∙ ap (option_map lost) e ∙ ap Some (sym f) in
-    sym (set_map lost qs x rest) ∙ set_same (map lost qs) x rest.lost at
+    let at : slice_get (map lost qs) x ≡ Some (lost rest) = get_map lost qs x ∙ ap (option_map lost) e ∙ ap Some (sym f) in
+    sym (set_map lost qs x rest) ∙ set_same (map lost qs) x (lost rest) at
 
 module _ {p : Program} {events : Events} {owns : List Own} {locks : List Lock} {qs : List Queue} {messages : List (List ℤ)} {held : List (Option ℕ)} {k place : ℕ} where
   -- a task's own part changes, and the lock that it holds stays
@@ -251,9 +251,9 @@ module _ {p : Program} {events : Events} {owns : List Own} {locks : List Lock} {
   -- and a task takes the oldest message of its source
   pub kept_take : IsKept p events owns locks qs messages held k place → (x : ℕ) (own later : Own) (q rest : Queue) → slice_get owns x ≡ Some own → x < length owns
       → slice_get qs x ≡ Some q → length later.words ≡ length own.words → held_monitor later ≡ held_monitor own → (HoldsWords p own.held → HoldsWords p later.held)
-      → waiting rest ≡ drop 1 (waiting q) → rest.lost ≡ q.lost → deque_capacity rest.waiting ≡ deque_capacity q.waiting
+      → waiting rest ≡ drop 1 (waiting q) → lost rest ≡ lost q → rest.room ≡ q.room → rest.numbered ≡ q.numbered
       → IsKept p events (slice_set owns x later) locks (slice_set qs x rest) messages held k place
-  kept_take kept x own later q rest g l at e f h w n r =
+  kept_take kept x own later q rest g l at e f h w n r b =
       let parts = kept_own kept x own later g l e f h in record {
         fits = kept.fits;
         owns_count = parts.owns_count;
@@ -262,7 +262,7 @@ module _ {p : Program} {events : Events} {owns : List Own} {locks : List Lock} {
         words = parts.words;
         free = kept.free;
         held_words = parts.held_words;
-        queues = shorter p events k place qs x q rest kept.queues at (get_within qs x q at) w n r;
+        queues = shorter p events k place qs x q rest kept.queues at (get_within qs x q at) w n r b;
         to_come = kept.to_come;
         holds = parts.holds;
         below = kept.below;

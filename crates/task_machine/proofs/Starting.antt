@@ -14,7 +14,7 @@ use Rattle.task_code.specs.Program.{Program}
 use Rattle.task_code.specs.Fits.{Fits, FitsKind}
 use Rattle.task_code.specs.Own.{first_own, held_monitor}
 use Rattle.task_code.specs.Machine.{Lock, Free, first_queue}
-use Rattle.task_machine.specs.Queue.{Queue, waiting, lost, capped, IsQueue}
+use Rattle.task_machine.specs.Queue.{Queue, waiting, lost, capped, is_numbered, IsQueue}
 use Rattle.task_machine.specs.Brought.{kind_in, depth_at}
 use Rattle.task_machine.specs.Kept.{IsKept, HasWords, coming, signals}
 use Rattle.task_machine.specs.Policy.{IsBelow}
@@ -62,12 +62,13 @@ module _ (p : Program) (events : Events) (qs : List Queue) (count : length qs �
   pub lost_start : map lost qs ≡ map (λ k. 0) events.kinds
   lost_start = map_same lost (λ k. 0) qs events.kinds count (λ x q k e f. (each x q e).none_lost)
 
-  first_is : (t : Task) (kind : SourceKind) (depth : Option ℕ) (n : ℕ) (q : Queue) → FitsKind kind t depth → Starts kind depth n q → IsQueue t.message depth n 0 q
+  first_is : (t : Task) (kind : SourceKind) (depth : Option ℕ) (n : ℕ) (q : Queue) → FitsKind kind t depth → Starts kind depth n q → IsQueue t.message depth (is_numbered kind) n 0 q
   first_is t kind depth n q fits is = record {
     messages = subst (λ (ms : List (List ℤ)). All (λ m. length m ≡ t.message) ms) (sym is.waits) (words kind t depth fits);
     within = rw is.waits (few kind t depth fits);
     room = is.room;
     few_lost = let a = is.none_lost in omega (arith, a);
+    numbered = is.numbered;
   }
     where
       words : (kind : SourceKind) (t : Task) (depth : Option ℕ) → FitsKind kind t depth → All (λ m. length m ≡ t.message) (first_queue kind)

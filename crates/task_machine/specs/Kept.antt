@@ -12,7 +12,7 @@ use Rattle.task_code.specs.Fits.{Fits}
 use Rattle.task_code.specs.Own.{Held, Own, held_monitor}
 use Rattle.task_code.specs.Machine.{Lock, Free, HeldBy}
 use Rattle.task_machine.specs.Policy.{IsBelow}
-use Rattle.task_machine.specs.Queue.{Queue, IsQueue}
+use Rattle.task_machine.specs.Queue.{Queue, is_numbered, IsQueue}
 
 -- how many messages the entries bring to source x of this kind, after k ticks
 abbrev pub coming : SourceKind → ℕ → ℕ → List Entry → ℕ
@@ -57,7 +57,7 @@ HoldWords p owns = (x : ℕ) (own : Own) → slice_get owns x ≡ Some own → H
 -- each queue is one of its task's messages, with room for those to come
 abbrev pub AreQueues : Program → Events → (k place : ℕ) → List Queue → Type 0
 AreQueues p events k place qs = (x : ℕ) (t : Task) (q : Queue) → slice_get p.tasks x ≡ Some t → slice_get qs x ≡ Some q
-    → IsQueue t.message (depth_of events x) (coming (kind_of events x) x k (drop place events.entries)) place q
+    → IsQueue t.message (depth_of events x) (is_numbered (kind_of events x)) (coming (kind_of events x) x k (drop place events.entries)) place q
 
 pub record IsKept (p : Program) (events : Events) (owns : List Own) (locks : List Lock) (qs : List Queue) (messages : List (List ℤ)) (held : List (Option ℕ)) (k place : ℕ) : Type 0 where
   pub fits : Fits p events

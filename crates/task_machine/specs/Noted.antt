@@ -62,6 +62,14 @@ pub record IsNext (s : State) (x : ℕ) (a : Action) : Type 0 where
   pub place : (own : Own) → slice_get s.machine.tasks x ≡ Some own → CanGoOn own a
   pub part : x < length s.machine.tasks
 
+-- these are what the next instructions of all tasks come to
+abbrev pub AreNext : State → List Action → Type 0
+AreNext s actions = (x : ℕ) (a : Action) → slice_get actions x ≡ Some a → IsNext s x a
+
+-- the flag of task x says whether it is ready
+abbrev pub IsFlagged : Bool → State → List Bool → ℕ → Type 0
+IsFlagged clear s flags x = slice_get flags x ≡ Some (ready_by clear s x)
+
 -- there is a place for each task and each monitor
 pub record HasPlaces (s : State) (n : Notes) : Type 0 where
   pub actions : length n.actions ≡ length s.program.tasks

@@ -4,7 +4,7 @@ ghost use Rattle.task_code.specs.Standing.{is_idle};
 ghost use Rattle.task_machine.specs.Bits.{words_for};
 ghost use Rattle.task_machine.specs.State.{State, standing_in};
 ghost use Rattle.task_machine.specs.Arriving.{reaches};
-ghost use Rattle.task_machine.specs.Noted.{IsNext, lock_in, ready_by, clear_in};
+ghost use Rattle.task_machine.specs.Noted.{IsNext, AreNext, IsFlagged, lock_in, ready_by, clear_in};
 
 use crate::action::Action;
 use crate::bits::{Bits, mark};
@@ -75,10 +75,10 @@ fn stand(running: &Running, actions: &[Action], clear: bool, x: usize, ready: &m
 
 /// Notes of all tasks whether they are ready.
 fn stand_all(running: &Running, actions: &[Action], clear: bool, ready: &mut Vec<bool>)
-    requires next { (x : ℕ) → (a : Action) → slice_get actions.now x ≡ Some a → IsNext running.now x a }
+    requires next { AreNext running.now actions.now }
     requires actions { length actions.now ≡ length running.now.program.tasks }
     requires ready { length ready.old.items ≡ length running.now.program.tasks }
-    ensures each { (x : ℕ) → x < length running.now.program.tasks → slice_get ready.new.items x ≡ Some (ready_by clear running.now x) }
+    ensures each { (x : ℕ) → x < length running.now.program.tasks → IsFlagged clear running.now ready.new.items x }
     ensures count { length ready.new.items ≡ length ready.old.items }
 {
     for x in 0..actions.len() {
@@ -94,10 +94,10 @@ fn stand_reached(
     arrival: Arrival,
     ready: &mut Vec<bool>,
 )
-    requires next { (x : ℕ) → (a : Action) → slice_get actions.now x ≡ Some a → IsNext running.now x a }
+    requires next { AreNext running.now actions.now }
     requires actions { length actions.now ≡ length running.now.program.tasks }
     requires ready { length ready.old.items ≡ length running.now.program.tasks }
-    ensures reached { (x : ℕ) → x < length running.now.program.tasks → reaches (Some arrival) running.now x ≡ true → slice_get ready.new.items x ≡ Some (ready_by clear running.now x) }
+    ensures reached { (x : ℕ) → x < length running.now.program.tasks → reaches (Some arrival) running.now x ≡ true → IsFlagged clear running.now ready.new.items x }
     ensures others { (x : ℕ) → reaches (Some arrival) running.now x ≡ false → slice_get ready.new.items x ≡ slice_get ready.old.items x }
     ensures count { length ready.new.items ≡ length ready.old.items }
 {

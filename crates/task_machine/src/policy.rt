@@ -59,17 +59,24 @@ fn at_position(priorities: &[u8], ready: &[bool], top: u8, position: usize) -> O
     None
 }
 
+/// The place that `k` names among the ready tasks of a priority: `k` modulo their number.
+fn place(priorities: &[u8], ready: &[bool], top: u8, k: u32) -> usize
+    ensures { at_turn k (of_priority priorities.now top (places_from 0 ready.now)) ≡ slice_get (of_priority priorities.now top (places_from 0 ready.now)) result }
+{
+    if k == 0 {
+        return 0;
+    }
+    let count = count_of_priority(priorities, ready, top);
+    if count == 0 { 0 } else { k as usize % count }
+}
+
 /// Of the ready tasks of the greatest priority the one at position `k` modulo their number.
 fn most_urgent(priorities: &[u8], ready: &[bool], k: u32) -> Option<u32>
     requires { length ready.now < 2 ^ 32 }
     ensures { result ≡ at_turn k (most_urgent priorities.now (places_from 0 ready.now)) }
 {
     let top = top_priority(priorities, ready);
-    let count = count_of_priority(priorities, ready, top);
-    if count == 0 {
-        return None;
-    }
-    match at_position(priorities, ready, top, k as usize % count) {
+    match at_position(priorities, ready, top, place(priorities, ready, top, k)) {
         Some(x) => Some(x as u32),
         None => None,
     }

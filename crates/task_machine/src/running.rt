@@ -9,6 +9,7 @@ use crate::message::Message;
 use crate::own::Own;
 use crate::queue::Queue;
 use crate::start::{first_locks, first_parts, first_queues, no_locks, signal_messages};
+use sqlite_items::Items;
 use std::alloc::Global;
 use std::collections::VecDeque;
 use std::marker::Model;
@@ -21,7 +22,7 @@ use tower_types::NoMemory;
 pub struct Running {
     program: Program,
     events: Events,
-    messages: VecDeque<Message>,
+    messages: VecDeque<Items<i128>>,
     tasks: Vec<Own>,
     locks: Vec<Lock>,
     queues: Vec<Queue>,
@@ -170,7 +171,7 @@ impl Running {
     pub fn has_message(&self, x: usize) -> bool
         ensures { result ≡ nat_lt 0 (length (queue self.now.machine x)) }
     {
-        x < self.queues.len() && !self.queues[x].waiting.is_empty()
+        x < self.queues.len() && self.queues[x].len() > 0
     }
 
     /// The number of monitors.
@@ -377,7 +378,7 @@ impl Running {
         requires { source < length self.now.program.tasks }
         ensures { result ≡ slice_index self.now.machine.lost source }
     {
-        self.queues[source].lost
+        self.queues[source].lost()
     }
 
     /// Is the record at its end.
@@ -517,11 +518,11 @@ impl Running {
     {
         prove!(self.place < self.events.entries.len());
         match self.messages.pop_front() {
-            Some(message) => bring(
+            Some(words) => bring(
                 self.events.depths.as_slice(),
                 &mut self.queues,
                 x as usize,
-                message,
+                Message::Words(words),
             ),
             None => unreachable!(),
         }

@@ -1,16 +1,15 @@
-ghost use Rattle.std.specs.Prelude.{◌≡◌, ℕ, ◌+◌, ◌≤◌, ℤ, pos, [], ◌∷◌, All, IfOk, Some, None, length, map, replicate, slice_get};
+ghost use Rattle.std.specs.Prelude.{◌≡◌, ℕ, ◌+◌, ◌≤◌, ◌<◌, ℤ, true, pos, [], ◌∷◌, All, IfOk, Some, None, length, map, replicate, slice_get};
 ghost use Rattle.tower_syntax.specs.Arch.{Entry as EntryOf};
 ghost use Rattle.tower_syntax.specs.View.{entry_of};
 ghost use Rattle.task_code.specs.Own.{Own as OwnPart, Filled as FilledBuffer, empty_buffer, first_own, held_monitor};
 ghost use Rattle.task_code.specs.Machine.{Free, first_queue};
-ghost use Rattle.task_machine.specs.Queue.{Queue as SourceQueue, capped};
+ghost use Rattle.task_machine.specs.Queue.{Queue as SourceQueue, capped, empty, with_more};
 ghost use Rattle.task_machine.specs.Brought.{depth_at, kind_in};
 ghost use Rattle.task_machine.specs.Kept.{coming, signals};
 ghost use Rattle.task_machine.specs.Start.{IsShallow, Starts};
 
 use crate::arrival::{depth_of, is_due};
 use crate::lock::Lock;
-use crate::message::Message;
 use crate::own::{Filled, Own};
 use crate::queue::Queue;
 use sqlite_items::Items;
@@ -81,7 +80,7 @@ pub fn first_locks(alloc: Global, monitors: &[u32]) -> Result<Vec<Lock>, NoMemor
 }
 
 /// The messages of the signals.
-pub fn signal_messages(alloc: Global, entries: &[Entry]) -> Result<VecDeque<Message>, NoMemory>
+pub fn signal_messages(alloc: Global, entries: &[Entry]) -> Result<VecDeque<Items<i128>>, NoMemory>
     requires { All IsShallow (map entry_of entries.now) }
     ensures { IfOk result (λ ms. ms.items ≡ signals (map entry_of entries.now)) }
 {
@@ -91,7 +90,7 @@ pub fn signal_messages(alloc: Global, entries: &[Entry]) -> Result<VecDeque<Mess
             Entry::Tick => {}
             Entry::Signal(_, value) => {
                 let words = flatten(alloc, value)?;
-                messages.push_back(Message::words(Items::from_vec(words)))?;
+                messages.push_back(Items::from_vec(words))?;
             }
         }
     }
@@ -136,10 +135,20 @@ fn first_queue(
         .checked_add(1)
         .ok_or(NoMemory)?;
     match kind {
-        SourceKind::Init => Queue::new(alloc, count, Some(Message::number(0))),
-        SourceKind::Period(_) => Queue::new(alloc, at_most(depth, count), None),
-        SourceKind::Signal => Queue::new(alloc, at_most(depth, count), None),
+        SourceKind::Init => init_queue(alloc, count),
+        SourceKind::Period(_) => Queue::numbers(alloc, at_most(depth, count)),
+        SourceKind::Signal => Queue::words(alloc, at_most(depth, count)),
     }
+}
+
+/// The queue of an initialisation, in which its one message waits.
+fn init_queue(alloc: Global, room: usize) -> Result<Queue, NoMemory>
+    requires { 0 < room }
+    ensures { IfOk result (λ q. q ≡ with_more (empty room true) (pos 0 ∷ [])) }
+{
+    let mut queue = Queue::numbers(alloc, room)?;
+    queue.push_number(0);
+    Ok(queue)
 }
 
 fn at_most(depth: Option<u32>, count: usize) -> usize

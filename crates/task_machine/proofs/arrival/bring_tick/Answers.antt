@@ -34,8 +34,8 @@ loop-x-preserved c =
           let new = w.bring.new.queues.items in
           let due : is_due c.args.k (slice_index_or kinds x kind.Init) ≡ true = sym w.if-is_due.ensures in
           let due_in : is_due c.args.k (kind_in kinds x) ≡ true = rw same at due in
-          let comes = rw w.number.ensures at w.bring.ensures.machine in
-          let is = rw w.number.ensures at w.bring.ensures.brought in
+          let comes = w.bring.ensures.machine in
+          let is = w.bring.ensures.brought in
           rw w.queues-is (record {
             machine = λ m. ap (λ (s : Machine). fold (bring c.args.depths.now) s (tick_messages (drop (x + 1) kinds) c.args.k (x + 1))) (comes m)
                 ∙ sym (due_step c.args.depths.now kinds c.args.k x (slice_index_or kinds x kind.Init) at due (with_queues m old)) ∙ inv.machine m;

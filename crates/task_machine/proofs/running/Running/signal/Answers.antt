@@ -25,8 +25,8 @@ pub invariant_of-self : goal.invariant_of-self
 invariant_of-self c =
     let is = is_signal c.args.x (slice_get (events_of c.self.inside.events).entries c.self.inside.place) (rw (← c.self.view_is) at c.requires) in
     let next = next_messages c.self.invariant.kept c.args.x is.0 is.1 in
-    let both : c.in-Some.message ∷ c.pop_front.new.self.items ≡ flat is.0 ∷ signals (drop (suc c.self.inside.place) (events_of c.self.inside.events).entries) = sym c.in-Some.ensures.items ∙ next in
-    let message : c.in-Some.message ≡ flat is.0 = cc in
+    let both : c.in-Some.words ∷ c.pop_front.new.self.items ≡ flat is.0 ∷ signals (drop (suc c.self.inside.place) (events_of c.self.inside.events).entries) = sym c.in-Some.ensures.items ∙ next in
+    let message : c.in-Some.words ≡ flat is.0 = cc in
     let rest : c.pop_front.new.self.items ≡ signals (drop (suc c.self.inside.place) (events_of c.self.inside.events).entries) = cc in
     let comes = rw (c.as_slice.ensures, message) at c.bring.ensures.brought in
     record { kept = kept_signal c.self.invariant.kept c.args.x is.0 c.bring.new.queues.items c.pop_front.new.self.items is.1 rest c.bring.ensures.count comes c.bring.ensures.others; known = tt }
@@ -35,8 +35,8 @@ pub returns-clause-step : goal.returns-clause-step
 returns-clause-step c = λ v e.
     let here : slice_get (events_of c.self.inside.events).entries c.self.inside.place ≡ Some (signal c.args.x v) = rw (← c.self.view_is) at e in
     let next = next_messages c.self.invariant.kept c.args.x v here in
-    let both : c.in-Some.message ∷ c.pop_front.new.self.items ≡ flat v ∷ signals (drop (suc c.self.inside.place) (events_of c.self.inside.events).entries) = sym c.in-Some.ensures.items ∙ next in
-    let message : c.in-Some.message ≡ flat v = cc in
+    let both : c.in-Some.words ∷ c.pop_front.new.self.items ≡ flat v ∷ signals (drop (suc c.self.inside.place) (events_of c.self.inside.events).entries) = sym c.in-Some.ensures.items ∙ next in
+    let message : c.in-Some.words ≡ flat v = cc in
     let machine = rw (c.as_slice.ensures, message) at c.bring.ensures.machine in
     let e' = received_signal (events_of c.self.inside.events) c.self.inside.tasks.items c.self.inside.locks.items c.self.inside.queues.items c.bring.new.queues.items c.self.inside.place
     c.args.x v machine in
