@@ -38,18 +38,18 @@ module _ (zeros : List Value) (x y : Execution) where
 
   pub binds : (s : Stmt) (b : ℕ) (e : Expr) (n : ℤ) (v : Value) → s ≡ bind b e → Gives x.env e n → v ≡ word n → y ≡ in_env (with_root (root.Binder b) v x.env) x → Does zeros s x y
   binds s b e n v is f to made = given s (bind b e) is (λ h.
-    let number : IsNumber x.env e = record { scope = h.scope; names = h.names; scalar = h.typed.1.0; values_fit = h.run_fits.env; typed = h.typed.1.2 } in
-    made ∙ ap (λ w. in_env (with_root (root.Binder b) w x.env) x) (to ∙ ap word (f number) ∙ sym (is_word x.env e number)))
+      let number : IsNumber x.env e = record { scope = h.scope; names = h.names; scalar = h.typed.1.0; values_fit = h.run_fits.env; typed = h.typed.1.2 } in
+      made ∙ ap (λ w. in_env (with_root (root.Binder b) w x.env) x) (to ∙ ap word (f number) ∙ sym (is_word x.env e number)))
 
   pub sets : (s : Stmt) (p : Place) (e : Expr) → s ≡ set p e → (IsPlace x.env p → IsNumber x.env e → y ≡ in_env (with_place p (expr_value x.env e) x.env) x) → Does zeros s x y
   sets s p e is f = given s (set p e) is (λ h.
-    f (record { scope = h.scope; names = h.names; shape = one h.typed.1.0; values_fit = h.run_fits.env; typed = h.typed.1.1 })
-    (record { scope = h.scope; names = h.names; scalar = h.typed.1.0; values_fit = h.run_fits.env; typed = h.typed.1.2 }))
+      f (record { scope = h.scope; names = h.names; shape = one h.typed.1.0; values_fit = h.run_fits.env; typed = h.typed.1.1 })
+      (record { scope = h.scope; names = h.names; scalar = h.typed.1.0; values_fit = h.run_fits.env; typed = h.typed.1.2 }))
 
   pub copies : (s : Stmt) (p q : Place) → s ≡ copy p q → (IsPlace x.env p → IsPlace x.env q → y ≡ in_env (with_place p (place_value x.env q) x.env) x) → Does zeros s x y
   copies s p q is f = given s (copy p q) is (λ h.
-    f (record { scope = h.scope; names = h.names; shape = h.typed.1.0; values_fit = h.run_fits.env; typed = h.typed.1.1 })
-    (record { scope = h.scope; names = h.names; shape = h.typed.1.0; values_fit = h.run_fits.env; typed = h.typed.1.2 }))
+      f (record { scope = h.scope; names = h.names; shape = h.typed.1.0; values_fit = h.run_fits.env; typed = h.typed.1.1 })
+      (record { scope = h.scope; names = h.names; shape = h.typed.1.0; values_fit = h.run_fits.env; typed = h.typed.1.2 }))
 
   pub emits : (s : Stmt) (k : ℕ) (e : Expr) → s ≡ emit k e → (IsValue x.env e → y ≡ emitted k (expr_value x.env e) x) → Does zeros s x y
   emits s k e is f = given s (emit k e) is (λ h. f (record { scope = h.scope; names = h.names; shape = _; values_fit = h.run_fits.env; typed = h.typed.1 }))
@@ -59,13 +59,13 @@ module _ (zeros : List Value) (x y : Execution) where
 
   pub takes_first : (s : Stmt) (e : Expr) (n : ℤ) (a b : Stmts) → s ≡ branch e a b → Gives x.env e n → (n ≡ pos 0 → ⊥) → DoesAll zeros a x y → Does zeros s x y
   takes_first s e n a b is f t g = given s (branch e a b) is (λ h.
-    g (record { scope = h.scope; names = h.names; zeros_fit = h.zeros_fit; run_fits = h.run_fits; typed = h.typed.1 })
-    ∙ sym (ap (λ k. cond k (after_stmts zeros a x) (after_stmts zeros b x)) (ap is_true (sym (test e n a b f h)) ∙ not_zero n t)))
+      g (record { scope = h.scope; names = h.names; zeros_fit = h.zeros_fit; run_fits = h.run_fits; typed = h.typed.1 })
+      ∙ sym (ap (λ k. cond k (after_stmts zeros a x) (after_stmts zeros b x)) (ap is_true (sym (test e n a b f h)) ∙ not_zero n t)))
 
   pub takes_second : (s : Stmt) (e : Expr) (n : ℤ) (a b : Stmts) → s ≡ branch e a b → Gives x.env e n → n ≡ pos 0 → DoesAll zeros b x y → Does zeros s x y
   takes_second s e n a b is f t g = given s (branch e a b) is (λ h.
-    g (record { scope = h.scope; names = h.names; zeros_fit = h.zeros_fit; run_fits = h.run_fits; typed = h.typed.2 })
-    ∙ sym (ap (λ k. cond k (after_stmts zeros a x) (after_stmts zeros b x)) (ap is_true (sym (test e n a b f h) ∙ t))))
+      g (record { scope = h.scope; names = h.names; zeros_fit = h.zeros_fit; run_fits = h.run_fits; typed = h.typed.2 })
+      ∙ sym (ap (λ k. cond k (after_stmts zeros a x) (after_stmts zeros b x)) (ap is_true (sym (test e n a b f h) ∙ t))))
 
 -- ---- loops
 
@@ -126,9 +126,10 @@ one_past zeros xs x y z i s lt read does past h =
     let rest = all_stmts_of (drop (i + 1) xs) in
     let list : all_stmts_of (drop i xs) ≡ stmt (stmt_of s) rest = ap all_stmts_of (left_of xs i s lt read) in
     let runs : RunsAll zeros (stmt (stmt_of s) rest) y = subst (λ ss. RunsAll zeros ss y) list before.0 in
-    let is : z ≡ after_stmt zeros (stmt_of s) y = does (first_runs zeros (stmt_of s) rest y runs) in
-    (subst (RunsAll zeros rest) (sym is) (rest_runs zeros (stmt_of s) rest y runs),
-    ap (after_stmts zeros rest) is ∙ sym (ap (λ ss. after_stmts zeros ss y) list) ∙ before.1)
+    let is : z ≡ after_stmt zeros (stmt_of s) y = does (first_runs zeros (stmt_of s) rest y runs) in (
+      subst (RunsAll zeros rest) (sym is) (rest_runs zeros (stmt_of s) rest y runs),
+      ap (after_stmts zeros rest) is ∙ sym (ap (λ ss. after_stmts zeros ss y) list) ∙ before.1,
+    )
 
 pub all_past : (zeros : List Value) (xs : List StmtValue) (x y : Execution) (i : ℕ) → i ≡ length xs → IsPast zeros xs x i y → DoesAll zeros (all_stmts_of xs) x y
 all_past zeros xs x y i e past h = sym (ap (λ ys. after_stmts zeros (all_stmts_of ys) y) (ap (λ j. drop j xs) e ∙ drop-length xs)) ∙ (past h).1

@@ -45,7 +45,7 @@ low (rec r) = omega arith
 known_type : (n : ℕ) (t : Ty) → IsNumberedType n t → IsTypeAmong n t
 known_type n t h = (h.0, omega (arith, h.1, low t))
 
-all_known : (n : ℕ) (fields : Fields) → All (λ f. IsNumberedType n f.1) fields → All (λ f. IsTypeAmong n f.1) fields
+pub all_known : (n : ℕ) (fields : Fields) → All (λ f. IsNumberedType n f.1) fields → All (λ f. IsTypeAmong n f.1) fields
 all_known n [] h = All-nil (λ (f : Name × Ty). IsTypeAmong n f.1)
 all_known n (f ∷ fs) h =
     All-cons (λ (f : Name × Ty). IsTypeAmong n f.1) f fs (known_type n f.1 (All-head (λ (f : Name × Ty). IsNumberedType n f.1) f fs h)) (all_known n fs (All-tail (λ (f : Name × Ty). IsNumberedType n f.1) f fs h))
@@ -100,9 +100,10 @@ module _ (arch : Arch) (h : Handler) (message : Value) (xs : List BodyValue) whe
   pub one_called : map body_of xs ≡ h.callbacks → (before e f : Effect) (i : ℕ) (b : BodyValue) → i < length xs → b ≡ get_or xs i b → (RunsCallback arch message e (body_of b) → f ≡ step e (body_of b)) → IsCalled before i e → IsCalled before (i + 1) f
   one_called same before e f i b lt read does far c =
       let was = far c in
-      let is : f ≡ step e (body_of b) = does (runs_callback same i b e was.0 lt read) in
-      (subst (CanHandle arch h message) (sym is) (still same i b e was.0 lt read),
-      ap (λ g. fold step g (map body_of (drop (i + 1) xs))) is ∙ sym (ap (λ bs. fold step e (map body_of bs)) (left_of xs i b lt read)) ∙ was.1)
+      let is : f ≡ step e (body_of b) = does (runs_callback same i b e was.0 lt read) in (
+        subst (CanHandle arch h message) (sym is) (still same i b e was.0 lt read),
+        ap (λ g. fold step g (map body_of (drop (i + 1) xs))) is ∙ sym (ap (λ bs. fold step e (map body_of bs)) (left_of xs i b lt read)) ∙ was.1,
+      )
 
   pub all_called : (before e : Effect) (i : ℕ) → i ≡ length xs → IsCalled before i e → CanHandle arch h message before → e ≡ fold step before (map body_of xs)
   all_called before e i end far c = sym (ap (λ bs. fold step e (map body_of bs)) (ap (λ j. drop j xs) end ∙ drop-length xs)) ∙ (far c).1

@@ -1,5 +1,6 @@
 -- Lists.
-use Rattle.std.proofs.Common.{◌≡◌, ◌∙◌, ℕ, zero, suc, ◌+◌, ◌<◌, List, [], ◌∷◌, ◌++◌, length, map, refl, ap, sym, slice_set, add-one, drop, get_or, slice_index_or, slice_get, Some, arith, subst, replicate}
+use Rattle.std.proofs.Common.{◌≡◌, ◌∙◌, ℕ, zero, suc, ◌+◌, ◌<◌, List, [], ◌∷◌, ◌++◌, length, map, refl, ap, sym, slice_set, add-one, drop, get_or, slice_index_or, slice_get, Some, arith, subst, replicate, take}
+use Rattle.std.proofs.lemmas.List.{map-append}
 use Rattle.std.proofs.lemmas.Option.{none-some}
 use Rattle.std.proofs.Math.Seq.{drop-cons}
 
@@ -87,3 +88,13 @@ set_read (x ∷ xs) (suc k) a b lt e = set_read xs k a b (omega arith) e
 pub map_replicate : {A B : Type 0} (f : A → B) (n : ℕ) (x : A) → map f (replicate n x) ≡ replicate n (f x)
 map_replicate f zero x = refl
 map_replicate f (suc n) x = ap (λ l. f x ∷ l) (map_replicate f n x)
+
+same_more : {B C : Type 0} (bs : List B) (j : ℕ) (c : C) → j < length bs → map (λ x. c) (take (suc j) bs) ≡ map (λ x. c) (take j bs) ++ c ∷ []
+same_more [] j c lt = absurd (omega arith)
+same_more (b ∷ bs) zero c lt = refl
+same_more (b ∷ bs) (suc j) c lt = ap (λ l. c ∷ l) (same_more bs j c (omega arith))
+
+-- one more element, all of which stand for the same
+pub one_same : {A B C : Type 0} (f : A → C) (xs : List B) (ys zs : List A) (i : ℕ) (y : A) (c : C) → i < length xs → zs ≡ ys ++ y ∷ [] → f y ≡ c → map f ys ≡ map (λ x. c) (take i xs) → map f zs ≡ map (λ x. c) (take (i + 1) xs)
+one_same f xs ys zs i y c lt e is h =
+    ap (map f) e ∙ map-append f ys (y ∷ []) ∙ ap (λ l. l ++ f y ∷ []) h ∙ ap (λ z. map (λ x. c) (take i xs) ++ z ∷ []) is ∙ sym (ap (λ k. map (λ x. c) (take k xs)) (add-one i) ∙ same_more xs i c lt)

@@ -74,3 +74,7 @@ step_made arch events old new m r made steps counted = record { numbered = made.
     by step.Done h = act_fits arch made.numbered made.typed events made.fit old.state made.state_fits m new.state h
     by step.Misfit h = subst (FitsState arch) (sym h.1) made.state_fits
     by step.NoMemory h = subst (FitsState arch) (sym h) made.state_fits
+
+pub none_yet : (es : List Entry) → 0 ≡ ticks (take 0 es)
+none_yet [] = refl
+none_yet (e ∷ es) = refl

@@ -3,7 +3,7 @@ use Rattle.std.proofs.Common.{◌≡◌, ◌∙◌, ℕ, ◌+◌, ◌<◌, List,
 use Rattle.std.proofs.Math.Seq.{drop-length}
 use Rattle.tower_syntax.specs.declared.event.Mark.{Mark}
 use Rattle.tower_syntax.specs.Arch.{Events}
-use Rattle.tower_meaning.specs.Atomic.{Atomic, act}
+use Rattle.tower_meaning.specs.Atomic.{Atomic, act, start}
 use Rattle.tower_meaning.specs.Replayed.{Replayed, replayed_from, replayed}
 use Rattle.tower_meaning.specs.System.{System}
 use Rattle.atomic_state.proofs.Lists.{left_of, any_default}
@@ -33,3 +33,7 @@ one_misfits system events marks i t m d lt read e h =
 
 pub all_fit : (system : System) (events : Events) (marks : List Mark) (i : ℕ) (t : Atomic) → i ≡ length marks → IsTried system events marks i t → replayed system events marks ≡ record { state = t; misfit = None }
 all_fit system events marks i t end h = sym (sym (ap (replayed_from system events i t (Some t)) (ap (λ j. drop j marks) end ∙ drop-length marks)) ∙ h)
+
+pub none_tried : (system : System) (events : Events) (marks : List Mark) (t : Atomic) → t ≡ start system → IsTried system events marks 0 t
+none_tried system events [] t e = ap (λ s. replayed_from system events 0 s (Some s) []) e
+none_tried system events (m ∷ ms) t e = ap (λ s. replayed_from system events 0 s (Some s) (m ∷ ms)) e

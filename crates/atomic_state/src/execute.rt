@@ -82,12 +82,7 @@ pub fn execute_all(
 
 /// Executes a statement. `zeros` has the zero value of each name that the callback binds.
 #[cycle(execute)]
-fn execute(
-    stmt: &Stmt,
-    alloc: Global,
-    zeros: &[Tree],
-    frame: &mut Frame,
-) -> Result<(), NoMemory>
+fn execute(stmt: &Stmt, alloc: Global, zeros: &[Tree], frame: &mut Frame) -> Result<(), NoMemory>
     ensures execution { OnOk result (Runs (map tree_of zeros.now) (stmt_of stmt.now) (execution_of frame.old) →
         execution_of frame.new ≡ after_stmt (map tree_of zeros.now) (stmt_of stmt.now) (execution_of frame.old)) }
     ensures before { frame.new.states.before ≡ frame.old.states.before }

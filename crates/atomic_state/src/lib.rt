@@ -10,14 +10,14 @@ mod handle;
 mod marks;
 mod parts;
 mod queue;
-mod replay;
 mod start;
 mod state;
 mod tree;
+mod trial;
 mod work;
 mod zero;
 
 pub use parts::AtomicStep;
-pub use replay::{Replay, replay};
 pub use state::AtomicState;
 pub use tree::Tree;
+pub use trial::{Verdict, replay};

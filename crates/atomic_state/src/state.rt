@@ -54,13 +54,7 @@ impl AtomicState {
     }
 
     /// Does what a mark says, if it has a step. After `Misfit` and `NoMemory` the state is as before.
-    pub fn step(
-        &mut self,
-        alloc: Global,
-        arch: &Arch,
-        events: &Events,
-        mark: Mark,
-    ) -> AtomicStep
+    pub fn step(&mut self, alloc: Global, arch: &Arch, events: &Events, mark: Mark) -> AtomicStep
         requires { IsStateOf arch.now (events_of events.now) self.old }
         ensures step { Steps self.old.state (act (system_of arch.now) (events_of events.now) self.old.state mark) result self.new.state }
         ensures made { IsStateOf arch.now (events_of events.now) self.new }

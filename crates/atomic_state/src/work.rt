@@ -118,13 +118,7 @@ fn push_all(pending: &mut Vec<(Listener, Value)>, items: Vec<(Listener, Value)>)
 }
 
 /// Runs the handler of a source's first pending item.
-pub fn handle(
-    alloc: Global,
-    arch: &Arch,
-    parts: &mut Parts,
-    x: usize,
-    h: u32,
-) -> AtomicStep
+pub fn handle(alloc: Global, arch: &Arch, parts: &mut Parts, x: usize, h: u32) -> AtomicStep
     requires typed { IsTyped arch.now }
     requires fits { FitsState arch.now (atomic_of parts.old) }
     requires first { first_listener (slice_get (atomic_of parts.old).pending x) ≡ Some (to.Handler h) }

@@ -31,12 +31,7 @@ fn zero(alloc: Global, records: &Records, t: &Ty) -> Result<Tree, NoMemory>
 }
 
 #[cycle(zero)]
-fn zero_elements(
-    alloc: Global,
-    records: &Records,
-    len: u32,
-    t: &Ty,
-) -> Result<Vec<Tree>, NoMemory>
+fn zero_elements(alloc: Global, records: &Records, len: u32, t: &Ty) -> Result<Vec<Tree>, NoMemory>
     requires { IsTypeAmong (length records.now) (ty_of t.now) }
     ensures { IfOk result (λ zs. map tree_of zs.items ≡ replicate len (zero_of (shape_of records.now (ty_of t.now)))) }
 {

@@ -16,7 +16,7 @@ use tower_types::NoMemory;
 /// What marks have come to: the state that they lead to, or that before the first mark that does not fit, with the
 /// number of this mark, counted from 1.
 #[derive(Drop)]
-pub struct Replay {
+pub struct Verdict {
     pub state: AtomicState,
     pub misfit: Option<u64>,
 }
@@ -27,7 +27,7 @@ pub fn replay(
     arch: &Arch,
     events: &Events,
     marks: &[Mark],
-) -> Result<Replay, NoMemory>
+) -> Result<Verdict, NoMemory>
     requires typed { IsTyped arch.now }
     requires fit { Fit arch.now (events_of events.now) }
     ensures replayed { IfOk result (λ r. replayed (system_of arch.now) (events_of events.now) marks.now ≡ record { state = r.state.state; misfit = r.misfit }) }
@@ -39,12 +39,12 @@ pub fn replay(
             AtomicStep::Done => {}
             AtomicStep::Misfit => {
                 let misfit = Some(k as u64 + 1);
-                return Ok(Replay { state, misfit });
+                return Ok(Verdict { state, misfit });
             }
             AtomicStep::NoMemory => return Err(NoMemory),
         }
     }
-    Ok(Replay {
+    Ok(Verdict {
         state,
         misfit: None,
     })
