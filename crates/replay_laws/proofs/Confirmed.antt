@@ -7,7 +7,9 @@ use Rattle.tower_meaning.specs.System.{system_of}
 use Rattle.tower_meaning.proofs.Replayed.{replayed_comes_to}
 use Rattle.task_code.specs.Program.{Program}
 use Rattle.lock_reduction.specs.Reduce.{Sound}
-use Rattle.replay_laws.specs.Laws.{IsConfirmed, ReplayConfirms, MisfitsIn, MisfitRefutes}
+use Rattle.replay_laws.specs.Laws.{IsConfirmed, ReplayConfirms, ReplayConfirmsPrograms, MisfitsIn, MisfitRefutes}
+use Rattle.task_build.specs.CodeOf.{code_of}
+use Rattle.task_build.proofs.Closing.{sound}
 
 pub confirms : ReplayConfirms
 confirms arch p sound events steps r fit e =
@@ -22,6 +24,9 @@ confirms arch p sound events steps r fit e =
     }
 
 pub refutes : MisfitRefutes
-refutes arch p m sound =
-    let c = confirms arch p sound m.events m.steps m.run m.fit m.runs in
+refutes arch p m is_sound =
+    let c = confirms arch p is_sound m.events m.steps m.run m.fit m.runs in
     none-some m.number (sym (ap (λ (t : Replayed). t.misfit) c.comes_to) ∙ m.misfits)
+
+pub confirms_programs : ReplayConfirmsPrograms
+confirms_programs bs arch accepted = confirms arch (code_of arch) (sound bs arch accepted)

@@ -8,8 +8,10 @@ use Rattle.tower_meaning.specs.System.{system_of}
 use Rattle.task_code.specs.Program.{Program}
 use Rattle.task_code.specs.Machine.{Free}
 use Rattle.task_code.specs.Run.{Run, Step, reached}
+use Rattle.arch_checks.specs.Offences.{IsAccepted}
 use Rattle.lock_reduction.specs.Reduce.{Sound}
 use Rattle.lock_reduction.specs.Consequences.{InEachRun}
+use Rattle.task_build.specs.CodeOf.{code_of}
 
 -- all marks of the run fit, and the state that they come to is what the run shows
 pub record IsConfirmed (arch : Arch) (events : Events) (r : Run) : Type 0 where
@@ -35,3 +37,7 @@ pub record MisfitsIn (arch : Arch) (p : Program) : Type 0 where
 
 abbrev pub MisfitRefutes : Type 0
 MisfitRefutes = (arch : Arch) (p : Program) → MisfitsIn arch p → Sound arch p → ⊥
+
+-- each run of the program of an accepted system is confirmed
+abbrev pub ReplayConfirmsPrograms : Type 0
+ReplayConfirmsPrograms = (bs : List ℕ) (arch : Arch) → IsAccepted bs arch → InEachRun arch (code_of arch) (IsConfirmed arch)
