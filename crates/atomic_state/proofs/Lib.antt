@@ -1,0 +1,16 @@
+pub mod Trees
+pub mod Lists
+pub mod Undone
+pub mod Numbers
+pub mod Paths
+pub mod Executed
+pub mod Zeros
+pub mod Handled
+pub mod Followed
+pub mod Arrived
+pub mod Pending
+pub mod StateFits
+pub mod Working
+pub mod Marked
+pub mod Started
+pub mod Tried

@@ -1,0 +1,11 @@
+pub mod TreeView
+pub mod Drafted
+pub mod DraftView
+pub mod FrameView
+pub mod Places
+pub mod Items
+pub mod Queues
+pub mod Kept
+pub mod StateView
+pub mod Fitting
+pub mod Step

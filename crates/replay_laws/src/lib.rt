@@ -1,0 +1,4 @@
+//! What a replay says of runs.
+#![tactic(auto)]
+
+pub mod laws;
