@@ -7,29 +7,12 @@ use tower_top::{Status, tower};
 /// The most bytes that a call of the table writes.
 const ROOM: usize = 1_000_000;
 
-/// What came of a call.
+/// What came of a call, and what it wrote on `out` and on `err`.
 #[derive(Drop)]
 pub struct Answer {
-    status: Status,
-    out: MemSink,
-    err: MemSink,
-}
-
-impl Answer {
-    /// Its status.
-    pub fn status(&self) -> Status {
-        self.status
-    }
-
-    /// What it wrote on `out`.
-    pub fn out(&self) -> &[u8] {
-        self.out.bytes()
-    }
-
-    /// What it wrote on `err`.
-    pub fn err(&self) -> &[u8] {
-        self.err.bytes()
-    }
+    pub status: Status,
+    pub out: Vec<u8>,
+    pub err: Vec<u8>,
 }
 
 /// The words of a line.
@@ -41,6 +24,11 @@ fn words(alloc: Global, line: &str) -> Result<Vec<String>, AllocError> {
     Ok(words)
 }
 
+/// A sink of which the put with this number fails.
+fn sink(alloc: Global, number: u64) -> Result<MemSink, AllocError> {
+    MemSink::new(alloc, ROOM, Vec::from_slice(alloc, &[number])?)
+}
+
 /// Carries out the words of a line, where the put with this number on `out` or on `err` fails.
 pub fn call_failing<F: Shelf>(
     alloc: Global,
@@ -49,9 +37,11 @@ pub fn call_failing<F: Shelf>(
     number: u64,
 ) -> Result<Answer, AllocError> {
     let words = words(alloc, line)?;
-    let mut out = MemSink::new(alloc, ROOM, Vec::from_slice(alloc, &[number])?)?;
-    let mut err = MemSink::new(alloc, ROOM, Vec::from_slice(alloc, &[number])?)?;
+    let mut out = sink(alloc, number)?;
+    let mut err = sink(alloc, number)?;
     let status = tower(alloc, words.as_slice(), shelf, &mut out, &mut err);
+    let out = Vec::from_slice(alloc, out.bytes())?;
+    let err = Vec::from_slice(alloc, err.bytes())?;
     Ok(Answer { status, out, err })
 }
 

@@ -1,6 +1,6 @@
 //! Runs of which a read or a put fails.
 
-use crate::call::{call, call_failing};
+use crate::call::{Answer, call, call_failing};
 use crate::shown::{Shown, show};
 use std::alloc::{AllocError, Global};
 use std::io::{self, Print};
@@ -42,36 +42,83 @@ fn shelf(alloc: Global, number: u64) -> Result<MemShelf, AllocError> {
     Ok(MemShelf::new(files, Vec::from_slice(alloc, &[number])?))
 }
 
-/// With the first call of the shelf failing, the second and so on: what is written then, up to the first run that is
-/// done.
+/// What is shown of the run of which a read fails, and whether it is done.
+fn shown_failing(alloc: Global, number: u64) -> Result<(String, bool), AllocError> {
+    let mut shelf = shelf(alloc, number)?;
+    let answer = call(alloc, READS, &mut shelf)?;
+    if answer.status == Status::Done {
+        return Ok((String::from_str(alloc, "status 0\n")?, true));
+    }
+    Ok((show(alloc, &answer, Shown::Whole)?, false))
+}
+
+/// With the first call of the shelf failing, the second and so on: what is shown then, up to the first run that is done.
 pub fn tell_reads<R: Print>(rt: &R, alloc: Global) -> io::Result<()> {
     println!(rt; "$ {READS}, where read 0, 1, 2 .. fails")?;
     for number in 0..MOST {
-        let answer = call(alloc, READS, &mut shelf(alloc, number)?)?;
-        let status = answer.status().code();
-        if answer.status() == Status::Done {
-            return println!(rt; "status {status}");
+        let (now, is_done) = shown_failing(alloc, number)?;
+        print!(rt; "{now}")?;
+        if is_done {
+            return Ok(());
         }
-        let is_empty = answer.out().is_empty();
-        let err = show(alloc, answer.err(), Shown::Whole)?;
-        print!(rt; "nothing on out: {is_empty}, {err}status {status}\n")?;
     }
     Ok(())
 }
 
+/// What a call is whose put with a number fails.
+#[derive(Clone, Copy)]
+enum Failing {
+    /// It has the status of a failed write, and wrote a first part of what is due.
+    Partly,
+    /// It has no put with this number, and wrote what is due.
+    Wholly,
+    Otherwise,
+}
+
+/// The call whose put with this number fails, beside the one in which none fails.
+fn failing_at(
+    alloc: Global,
+    line: &str,
+    number: u64,
+    whole: &Answer,
+) -> Result<Failing, AllocError> {
+    let mut shelf = shelf(alloc, u64::MAX)?;
+    let answer = call_failing(alloc, line, &mut shelf, number)?;
+    if answer.status == whole.status {
+        return Ok(if is_same(&answer, whole) {
+            Failing::Wholly
+        } else {
+            Failing::Otherwise
+        });
+    }
+    Ok(if answer.status == Status::WriteFault && is_part(&answer, whole) {
+        Failing::Partly
+    } else {
+        Failing::Otherwise
+    })
+}
+
+/// Whether two calls wrote the same.
+fn is_same(answer: &Answer, whole: &Answer) -> bool {
+    answer.out.as_slice() == whole.out.as_slice() && answer.err.as_slice() == whole.err.as_slice()
+}
+
+/// Whether a call wrote a first part of what another wrote.
+fn is_part(answer: &Answer, whole: &Answer) -> bool {
+    whole.out.as_slice().starts_with(answer.out.as_slice())
+        && whole.err.as_slice().starts_with(answer.err.as_slice())
+}
+
 /// Whether each put that fails, one after another, ends a call with a first part of what is due and the status of a
-/// failed write, up to the first call in which none fails.
+/// failed write, up to the first call that has no such put.
 fn fails_in_turn(alloc: Global, line: &str) -> Result<bool, AllocError> {
-    let whole = call(alloc, line, &mut shelf(alloc, u64::MAX)?)?;
+    let mut shelf = shelf(alloc, u64::MAX)?;
+    let whole = call(alloc, line, &mut shelf)?;
     for number in 0..MOST {
-        let answer = call_failing(alloc, line, &mut shelf(alloc, u64::MAX)?, number)?;
-        if answer.status() == whole.status() {
-            return Ok(0 < number && answer.out() == whole.out() && answer.err() == whole.err());
-        }
-        let is_part = whole.out().starts_with(answer.out())
-            && whole.err().starts_with(answer.err());
-        if answer.status() != Status::WriteFault || !is_part {
-            return Ok(false);
+        match failing_at(alloc, line, number, &whole)? {
+            Failing::Partly => {}
+            Failing::Wholly => return Ok(0 < number),
+            Failing::Otherwise => return Ok(false),
         }
     }
     Ok(false)

@@ -7,25 +7,22 @@ mod failing;
 mod limits;
 mod shown;
 
-use call::{Answer, call};
+use call::call;
 use calls::CALLS;
 use shown::{Shown, show};
-use std::alloc::Global;
-use std::io::{self, Print};
-use tower_io::FileShelf;
+use std::alloc::{AllocError, Global};
+use std::io;
+use tower_io::{FileShelf, Shelf};
 
-/// Writes the line of a call, what it wrote, and its status.
-fn tell<R: Print>(
-    rt: &R,
+/// What is shown of the call of a line.
+fn shown_of<F: Shelf>(
     alloc: Global,
     line: &str,
-    answer: &Answer,
     how: Shown,
-) -> io::Result<()> {
-    let out = show(alloc, answer.out(), how)?;
-    let err = show(alloc, answer.err(), Shown::Whole)?;
-    let status = answer.status().code();
-    println!(rt; "$ {line}\n{out}{err}status {status}")
+    shelf: &mut F,
+) -> Result<String, AllocError> {
+    let answer = call(alloc, line, shelf)?;
+    show(alloc, &answer, how)
 }
 
 /// Each line of the table, in a shelf of the files that lie in the folder in which the program runs.
@@ -33,8 +30,8 @@ fn main(rt: HostRuntime) -> io::Result<()> {
     let alloc = rt.alloc();
     let mut shelf = FileShelf::new(&rt);
     for (line, how) in CALLS {
-        let answer = call(alloc, line, &mut shelf)?;
-        tell(&rt, alloc, line, &answer, how)?;
+        let shown = shown_of(alloc, line, how, &mut shelf)?;
+        print!(rt; "$ {line}\n{shown}")?;
     }
     limits::tell_each(&rt, alloc, &mut shelf)?;
     limits::tell_the_last(&rt, alloc, &mut shelf)?;

@@ -1,8 +1,9 @@
-//! What is shown of the text of a run.
+//! What is shown of a call.
 
+use crate::call::Answer;
 use std::alloc::{AllocError, Global};
 
-/// How a text is shown.
+/// How the text of a run is shown.
 #[derive(Clone, Copy)]
 pub enum Shown {
     /// As it is.
@@ -14,18 +15,24 @@ pub enum Shown {
 }
 
 /// A line of a run.
+#[derive(Clone, Copy)]
 enum Line<'a> {
     Mark(&'a str),
-    Count,
+    Count(&'a str),
     Other,
 }
 
 /// A mark stands behind a number.
 fn line_of(line: &str) -> Line<'_> {
-    match line.split_once(' ') {
-        Some(("count", _)) => Line::Count,
-        Some((number, mark)) if number.parse::<u64>().is_ok() => Line::Mark(mark),
-        _ => Line::Other,
+    let Some((first, rest)) = line.split_once(' ') else {
+        return Line::Other;
+    };
+    if first == "count" {
+        Line::Count(rest)
+    } else if first.parse::<u64>().is_ok() {
+        Line::Mark(rest)
+    } else {
+        Line::Other
     }
 }
 
@@ -33,52 +40,78 @@ fn line_of(line: &str) -> Line<'_> {
 fn with_marks(alloc: Global, text: &str) -> Result<String, AllocError> {
     let mut shown = String::new(alloc);
     for line in text.lines() {
-        shown.push_str(match line_of(line) {
+        let line = match line_of(line) {
             Line::Mark(mark) => mark,
-            Line::Count => "count *",
+            Line::Count(_) => "count *",
             Line::Other => line,
-        })?;
+        };
+        shown.push_str(line)?;
         shown.push('\n')?;
     }
     Ok(shown)
 }
 
-/// The number of marks, and the other lines.
-fn with_number(alloc: Global, text: &str) -> Result<String, AllocError> {
-    let mut others = String::new(alloc);
+/// The number of the marks of a text.
+fn marks_in(text: &str) -> u64 {
     let mut marks = 0u64;
     for line in text.lines() {
-        match line_of(line) {
-            Line::Mark(_) => marks = marks.saturating_add(1),
-            Line::Count => others.push_str("count *\n")?,
-            Line::Other => {
-                others.push_str(line)?;
-                others.push('\n')?;
-            }
+        if let Line::Mark(_) = line_of(line) {
+            marks = marks.saturating_add(1);
         }
     }
-    format!(in alloc; "marks {marks}\n{others}")
+    marks
 }
 
-/// What is shown of a text, which is ASCII.
-pub fn show(alloc: Global, text: &[u8], how: Shown) -> Result<String, AllocError> {
-    let Ok(text) = str::from_utf8(text) else {
-        return String::from_str(alloc, "no text\n");
-    };
+/// The lines that are no marks.
+fn without_marks(alloc: Global, text: &str) -> Result<String, AllocError> {
+    let mut shown = String::new(alloc);
+    for line in text.lines() {
+        let line = match line_of(line) {
+            Line::Mark(_) => continue,
+            Line::Count(_) => "count *",
+            Line::Other => line,
+        };
+        shown.push_str(line)?;
+        shown.push('\n')?;
+    }
+    Ok(shown)
+}
+
+/// What is shown of the text of a run.
+fn show_run(alloc: Global, text: &str, how: Shown) -> Result<String, AllocError> {
     match how {
         Shown::Whole => String::from_str(alloc, text),
         Shown::Marks => with_marks(alloc, text),
-        Shown::Number => with_number(alloc, text),
+        Shown::Number => {
+            let others = without_marks(alloc, text)?;
+            let marks = marks_in(text);
+            format!(in alloc; "marks {marks}\n{others}")
+        }
     }
 }
 
-/// The number of instructions that the text of a run tells.
-pub fn count_in(text: &[u8]) -> Option<u64> {
-    let text = str::from_utf8(text).ok()?;
-    for line in text.lines() {
-        if let Some(("count", number)) = line.split_once(' ') {
-            return number.parse::<u64>().ok();
+/// A text that was written; it is ASCII.
+fn written(text: &[u8]) -> &str {
+    match str::from_utf8(text) {
+        Ok(text) => text,
+        Err(_) => "no text\n",
+    }
+}
+
+/// What is shown of a call: what it wrote on `out` and on `err`, and its status.
+pub fn show(alloc: Global, answer: &Answer, how: Shown) -> Result<String, AllocError> {
+    let out = show_run(alloc, written(answer.out.as_slice()), how)?;
+    let err = written(answer.err.as_slice());
+    let status = answer.status.code();
+    format!(in alloc; "{out}{err}status {status}\n")
+}
+
+/// The number of instructions that the text of a run tells; 0 where it tells none.
+pub fn count_in(text: &[u8]) -> u64 {
+    for line in written(text).lines() {
+        if let Line::Count(number) = line_of(line) {
+            return number.parse::<u64>().unwrap_or(0);
         }
     }
-    None
+    0
 }
