@@ -103,7 +103,7 @@ fn task_to_go_on(machine: &Machine) -> Option<u32>
     ensures { result ≡ task_left machine.now }
 {
     match machine.last() {
-        Some((task, false)) if machine.ready()[task as usize] => Some(task),
+        Some((task, false)) if machine.standing(task).is_ready() => Some(task),
         _ => None,
     }
 }
