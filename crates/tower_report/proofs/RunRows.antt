@@ -10,6 +10,8 @@ worked_runs = record {
   plain = refl;
   stopped = refl;
   waits = refl;
+  ceiling = refl;
+  two_cores = refl;
 }
 
 pub worked_replays : WorkedReplays

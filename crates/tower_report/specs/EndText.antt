@@ -64,10 +64,26 @@ abbrev pub waits_text : Option ℕ → Bytes
 waits_text None = []
 waits_text (Some n) = waits_line n
 
+abbrev pub core_line : ℕ → ℕ → Bytes
+core_line i n = line (codes "core" ∷ decimal i ∷ decimal n ∷ [])
+
+-- of each core, the number of its instructions
+abbrev pub cores_text : List ℕ → Bytes
+cores_text counts = flat_map (λ i. core_line i (slice_index counts i)) (numbers_before (length counts) [])
+
 abbrev pub last_line : Bool → Bytes
 last_line stopped = line (cond stopped (codes "stopped") (codes "done") ∷ [])
 
--- the machine after so many instructions
-abbrev pub end_text : Arch → Machine → ℕ → Option ℕ → Bool → Bytes
-end_text arch m n waits stopped =
-    monitors_text arch m.locks ++ losses_text arch m.lost ++ count_line n ++ waits_text waits ++ last_line stopped
+-- what was counted of a run: its instructions, those before which a given rule named a waiting task, and those on each
+-- core where there are several
+pub record Tally : Type 0 where
+  pub count : ℕ
+  pub waits : Option ℕ
+  pub cores : List ℕ
+
+abbrev pub tally_text : Tally → Bytes
+tally_text t = count_line t.count ++ waits_text t.waits ++ cores_text t.cores
+
+-- the machine at the end of a run
+abbrev pub end_text : Arch → Machine → Tally → Bool → Bytes
+end_text arch m tally stopped = monitors_text arch m.locks ++ losses_text arch m.lost ++ tally_text tally ++ last_line stopped

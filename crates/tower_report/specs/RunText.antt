@@ -1,29 +1,35 @@
 -- The text of a run: what each step of its plan shows, and how it ends.
-use Rattle.std.specs.Prelude.{ℕ, ◌+◌, List, [], ◌∷◌, ◌++◌, map, flat_map, cond, Bool, true, false, not, Option, Some, None}
+use Rattle.std.specs.Prelude.{ℕ, ◌+◌, ◌≤◌, List, [], ◌∷◌, ◌++◌, flat_map, Option, Some, None}
 use Rattle.tower_syntax.specs.declared.event.Choice.{Choice}
 use Rattle.tower_syntax.specs.declared.event.Mark.TheVariants as mark
 use Rattle.tower_syntax.specs.Arch.{Arch, Events}
 use Rattle.task_code.specs.Program.{Program}
-use Rattle.task_code.specs.Own.{held_monitor}
 use Rattle.task_code.specs.Does.{Does}
 use Rattle.task_code.specs.Machine.{Machine, next_does}
-use Rattle.task_code.specs.Standing.{Standing, IsWaiting, standing, standings, is_idle}
 use Rattle.task_code.specs.Run.{Run, step, first_run, mark_of, written_by}
 use Rattle.task_code.specs.Policy.{Policy, fixed}
+use Rattle.task_code.specs.Ceiling.{ceiling}
+use Rattle.task_code.specs.Cores.{cores}
 use Rattle.task_code.specs.Plan.{Planned, goes, comes, step_of, instructions, plan}
+use Rattle.task_code.specs.Tally.{waits, core_counts}
 use Rattle.tower_report.specs.declared.rule.Rule.{Rule}
 use Rattle.tower_report.specs.declared.rule.Rule.TheVariants as rule
 use Rattle.tower_report.specs.Bytes.{Bytes}
 use Rattle.tower_report.specs.MarkText.{mark_line, out_line}
-use Rattle.tower_report.specs.EndText.{end_text}
-
-abbrev pub rule_policy : Rule → Program → Policy
-rule_policy rule.Fixed p = fixed p
+use Rattle.tower_report.specs.EndText.{Tally, end_text}
 
 -- that of `fixed` where no rule is given
-abbrev pub policy_of : Option Rule → Program → Policy
-policy_of None p = fixed p
-policy_of (Some r) p = rule_policy r p
+abbrev pub policy_of : Option Rule → Arch → Program → Policy
+policy_of None arch p = fixed p
+policy_of (Some rule.Fixed) arch p = fixed p
+policy_of (Some rule.Ceiling) arch p = ceiling arch p
+policy_of (Some (rule.Cores n)) arch p = cores n p
+
+-- a number of cores is from 1 to 64
+abbrev pub IsRule : Rule → Type 0
+IsRule rule.Fixed = Unit {0}
+IsRule rule.Ceiling = Unit {0}
+IsRule (rule.Cores n) = (1 ≤ n) × (n ≤ 64)
 
 -- ---- the steps
 
@@ -43,39 +49,34 @@ steps_text arch p events n None (s ∷ ss) = []
 steps_text arch p events n (Some r) (s ∷ ss) =
     step_text arch p r.machine n s ++ steps_text arch p events (n + instructions (s ∷ [])) (step p events r (step_of s)) ss
 
--- ---- waiting tasks
+-- ---- what is counted
 
-abbrev pub is_waiting : Standing → Bool
-is_waiting (IsWaiting m) = true
-is_waiting _ = false
+-- the instructions before which the rule names a waiting task, where it is `fixed` or `ceiling`
+abbrev pub waits_by : Option Rule → Arch → Program → Events → List Planned → Option ℕ
+waits_by None arch p events steps = None
+waits_by (Some rule.Fixed) arch p events steps = Some (waits (fixed p) p events (Some (first_run p events)) steps)
+waits_by (Some rule.Ceiling) arch p events steps = Some (waits (ceiling arch p) p events (Some (first_run p events)) steps)
+waits_by (Some (rule.Cores n)) arch p events steps = None
 
-abbrev pub names_waiting : Program → Events → Machine → Option ℕ → Bool
-names_waiting p events m None = false
-names_waiting p events m (Some x) = is_waiting (standing p events m x)
+-- the instructions on each core, where there are several
+abbrev pub cores_by : Option Rule → Program → Events → List Planned → List ℕ
+cores_by None p events steps = []
+cores_by (Some rule.Fixed) p events steps = []
+cores_by (Some rule.Ceiling) p events steps = []
+cores_by (Some (rule.Cores n)) p events steps = core_counts n p events steps
 
--- does the policy, over all tasks that are not idle, name a waiting task before this step
-abbrev pub waits_before : Policy → Program → Events → Machine → Planned → Bool
-waits_before policy p events m comes = false
-waits_before policy p events m (goes k x) =
-    names_waiting p events m (policy.names (map (λ s. not (is_idle s)) (standings p events m)) (map held_monitor m.tasks) k)
-
--- the number of steps before which it does
-abbrev pub waits : Policy → Program → Events → Option Run → List Planned → ℕ
-waits policy p events o [] = 0
-waits policy p events None (s ∷ ss) = 0
-waits policy p events (Some r) (s ∷ ss) =
-    cond (waits_before policy p events r.machine s) 1 0 + waits policy p events (step p events r (step_of s)) ss
-
--- counted where a rule is given
-abbrev pub waits_by : Option Rule → Program → Events → List Planned → Option ℕ
-waits_by None p events steps = None
-waits_by (Some r) p events steps = Some (waits (rule_policy r p) p events (Some (first_run p events)) steps)
+abbrev pub tally_of : Option Rule → Arch → Program → Events → List Planned → Tally
+tally_of given arch p events steps = record {
+  count = instructions steps;
+  waits = waits_by given arch p events steps;
+  cores = cores_by given p events steps;
+}
 
 -- ---- the whole
 
 -- of the run with these choices and at most so many instructions
 abbrev pub run_text : Arch → Program → Events → List Choice → ℕ → Option Rule → Bytes
 run_text arch p events choices limit given =
-    let planned = plan (policy_of given p) p events choices limit in
+    let planned = plan (policy_of given arch p) p events choices limit in
     steps_text arch p events 0 (Some (first_run p events)) planned.steps
-    ++ end_text arch planned.run.machine (instructions planned.steps) (waits_by given p events planned.steps) planned.stopped
+    ++ end_text arch planned.run.machine (tally_of given arch p events planned.steps) planned.stopped

@@ -15,7 +15,7 @@ use Rattle.task_code.specs.declared.program.Instr.TheVariants.{Push, Ld, St, Ldm
 use Rattle.task_code.specs.declared.program.Instr.TheVariants.{Out as Write}
 use Rattle.task_code.specs.Program.{Program}
 use Rattle.task_code.specs.WorkedListing.{counter}
-use Rattle.tower_report.specs.declared.rule.Rule.TheVariants.{Fixed}
+use Rattle.tower_report.specs.declared.rule.Rule.TheVariants.{Fixed, Ceiling, Cores}
 use Rattle.tower_report.specs.RunText.{run_text}
 use Rattle.tower_report.specs.ReplayText.{replay_text}
 use Rattle.tower_report.specs.WorkedTexts.{lines}
@@ -63,6 +63,18 @@ pub record WorkedRuns : Type 0 where
       ++ codes "1 s low" ∷ codes "2 a" ∷ codes "2 a" ∷ codes "3 s high" ∷ codes "13 r low" ∷ codes "24 r high"
       ∷ codes "25 o high" ∷ codes "out seen 6" ∷ codes "27 o low" ∷ codes "out seen 1"
       ∷ codes "state m x 6" ∷ codes "lost low 0" ∷ codes "lost high 1" ∷ codes "count 28" ∷ codes "waits 10" ∷ codes "done" ∷ [])
+  -- the same by the ceiling rule: low, which holds the lock, goes first, and none waits
+  pub ceiling : run_text shallow adders (events_of shallow entries) (Ev 10 ∷ See 0 2 ∷ Ev 2 ∷ []) 100 (Some Ceiling)
+      ≡ lines (replicate 10 (codes "0 a")
+      ++ codes "1 s low" ∷ codes "2 a" ∷ codes "2 a" ∷ codes "12 r low" ∷ codes "13 s high" ∷ codes "24 r high"
+      ∷ codes "25 o high" ∷ codes "out seen 6" ∷ codes "27 o low" ∷ codes "out seen 1"
+      ∷ codes "state m x 6" ∷ codes "lost low 0" ∷ codes "lost high 1" ∷ codes "count 28" ∷ codes "waits 0" ∷ codes "done" ∷ [])
+  -- the same on two cores: low runs alone until it unlocks, and then the cores take turns, high on the first
+  pub two_cores : run_text shallow adders (events_of shallow entries) (Ev 10 ∷ See 0 2 ∷ Ev 2 ∷ []) 100 (Some (Cores 2))
+      ≡ lines (replicate 10 (codes "0 a")
+      ++ codes "1 s low" ∷ codes "2 a" ∷ codes "2 a" ∷ codes "3 s high" ∷ codes "13 r low" ∷ codes "14 o low" ∷ codes "out seen 1"
+      ∷ codes "26 r high" ∷ codes "27 o high" ∷ codes "out seen 6"
+      ∷ codes "state m x 6" ∷ codes "lost low 0" ∷ codes "lost high 1" ∷ codes "count 28" ∷ codes "core 0 26" ∷ codes "core 1 2" ∷ codes "done" ∷ [])
 
 -- ---- replays
 

@@ -3,7 +3,7 @@ ghost use Rattle.std.specs.Prelude.{◌≡◌, ◌<◌, ◌≤◌, length, All};
 ghost use Rattle.tower_types.specs.Ty.{NamesBelow};
 ghost use Rattle.tower_types.specs.View.{fields_of};
 ghost use Rattle.tower_syntax.specs.Weights.{states_of};
-ghost use Rattle.tower_report.specs.EndText.{monitor_text, states_text, lost_text, count_line, waits_line, last_line};
+ghost use Rattle.tower_report.specs.EndText.{monitor_text, states_text, lost_text, count_line, waits_line, core_line, last_line};
 ghost use Rattle.tower_report.specs.ValueText.{shapes_in, shapes_depth, shapes_words};
 ghost use Rattle.tower_report.specs.Puts.{Puts, answer_of};
 
@@ -97,6 +97,17 @@ pub fn put_waits<O: Sink>(out: &mut O, n: u64) -> Put
     let mut buffer = Buffer::new();
     let number = buffer.format(n).as_bytes();
     answer(put_line(out, &[b"waits", number]))
+}
+
+/// Puts the number of instructions on a core.
+pub fn put_core<O: Sink>(out: &mut O, core: u32, n: u64) -> Put
+    ensures { Puts O.written O.faults out.old out.new (core_line core n) result }
+{
+    let mut core_buffer = Buffer::new();
+    let core = core_buffer.format(core).as_bytes();
+    let mut buffer = Buffer::new();
+    let number = buffer.format(n).as_bytes();
+    answer(put_line(out, &[b"core", core, number]))
 }
 
 /// Puts the last line: whether the run was stopped.

@@ -14,7 +14,7 @@ pub mod values;
 pub mod words;
 
 pub use checks::put_check;
-pub use ends::{put_count, put_end, put_held, put_lost, put_states, put_waits};
+pub use ends::{put_core, put_count, put_end, put_held, put_lost, put_states, put_waits};
 pub use faults::put_fault;
 pub use marks::{put_mark, put_out};
 pub use refusals::{put_bad, put_unread, put_usage};

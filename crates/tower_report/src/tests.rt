@@ -5,7 +5,7 @@ ghost use Rattle.tower_syntax.specs.View.{source_of, channel_of, output_of, moni
 ghost use Rattle.tower_report.specs.Worked.{fix, states, worked};
 
 use crate::{
-    put_count, put_end, put_held, put_lost, put_mark, put_message, put_misfit, put_out,
+    put_core, put_count, put_end, put_held, put_lost, put_mark, put_message, put_misfit, put_out,
     put_pending, put_state_values, put_states, put_value, put_waiting, put_waits, put_words,
 };
 use sqlite_items::Items;
@@ -108,9 +108,10 @@ fn puts_the_last_lines(rt: HostRuntime) -> Result<(), Fail> {
     assert_eq!(rt; put_count(&mut out, 0), Put::Done);
     assert_eq!(rt; put_count(&mut out, u64::MAX), Put::Done);
     assert_eq!(rt; put_waits(&mut out, 12), Put::Done);
+    assert_eq!(rt; put_core(&mut out, 63, 7), Put::Done);
     assert_eq!(rt; put_end(&mut out, true), Put::Done);
     assert_eq!(rt; put_end(&mut out, false), Put::Done);
-    let want = "count 0\ncount 18446744073709551615\nwaits 12\nstopped\ndone\n";
+    let want = "count 0\ncount 18446744073709551615\nwaits 12\ncore 63 7\nstopped\ndone\n";
     assert_eq!(rt; out.bytes(), want.as_bytes());
     Ok(())
 }

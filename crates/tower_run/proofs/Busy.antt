@@ -4,11 +4,11 @@ use Rattle.std.proofs.lemmas.List.{length-map}
 use Rattle.std.proofs.lemmas.Option.{slice_get_within}
 use Rattle.tower_syntax.specs.View.{events_of}
 use Rattle.task_code.specs.Standing.{Standing, standing, standings, is_idle}
-use Rattle.task_code.specs.Policy.{fixed_names}
-use Rattle.task_machine.specs.Lawful.{fixed_is_lawful}
 use Rattle.task_machine.specs.Policy.{IsLawful}
 use Rattle.task_machine.specs.State.{State}
 use Rattle.task_machine.proofs.Numbers.{length_over}
+use Rattle.tower_run.specs.declared.scheduler.Scheduler.{Scheduler}
+use Rattle.tower_run.specs.Scheduler.{names_by, scheduler_is_lawful}
 use Rattle.tower_run.specs.Waiting.{busy_in}
 
 pub busy_length : (s : State) → length (busy_in s) ≡ length s.program.tasks
@@ -23,5 +23,5 @@ named_within bs (Some y) x lawful e =
     let is : y ≡ x = cc in
     subst (λ z. z < length bs) is (slice_get_within bs y true lawful)
 
-pub fixed_within : (ps : List ℕ) (bs : List Bool) (hs : List (Option ℕ)) (k x : ℕ) → fixed_names ps bs hs k ≡ Some x → x < length bs
-fixed_within ps bs hs k x e = named_within bs (fixed_names ps bs hs k) x (fixed_is_lawful ps bs hs k) e
+pub within : (rule : Scheduler) (bs : List Bool) (hs : List (Option ℕ)) (k x : ℕ) → names_by rule bs hs k ≡ Some x → x < length bs
+within rule bs hs k x e = named_within bs (names_by rule bs hs k) x (scheduler_is_lawful rule bs hs k) e

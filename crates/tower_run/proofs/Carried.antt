@@ -1,5 +1,5 @@
 -- The turns of a run: what each carries out.
-use Rattle.std.proofs.Common.{◌≡◌, ◌<◌, ◌≤◌, ◌+◌, ◌-◌, ℕ, zero, suc, List, [], ◌∷◌, length, Option, Some, None, Bool, true, false, ◌&&◌, ◌||◌, not, refl, sym, ap, ◌∙◌, subst, arith, slice_get, is_some, cond, drop, slice_index_or}
+use Rattle.std.proofs.Common.{◌≡◌, ◌<◌, ◌≤◌, ◌+◌, ◌-◌, ℕ, zero, suc, List, [], ◌∷◌, length, Option, Some, None, Bool, true, false, ◌&&◌, ◌||◌, not, refl, sym, ap, ◌∙◌, subst, arith, slice_get, slice_index, is_some, cond, drop, slice_index_or, IfSome, ◌^◌}
 use Rattle.std.specs.List.{list_any}
 use Rattle.std.proofs.lemmas.Option.{same_Some, none-some, slice_get_within}
 use Rattle.std.proofs.lemmas.List.{length-map}
@@ -12,10 +12,9 @@ use Rattle.tower_syntax.specs.View.{events_of}
 use Rattle.task_code.specs.Machine.{Machine, next_does}
 use Rattle.task_code.specs.Standing.{is_ready, standing, is_finished}
 use Rattle.task_code.specs.Run.{is_visible}
-use Rattle.task_code.specs.Policy.{fixed_names, priorities}
+use Rattle.task_code.specs.Policy.{priorities}
 use Rattle.task_code.specs.Plan as plan
 use Rattle.task_code.specs.Plan.{Planning, picked, is_seen, repeated}
-use Rattle.task_machine.specs.Lawful.{fixed_is_lawful}
 use Rattle.task_machine.specs.State.{State, ready, holds, does_next, standing_in, next_entry, arrived, turned}
 use Rattle.tower_run.specs.declared.going.Job.{Job}
 use Rattle.tower_run.specs.declared.going.Going.{Going}
@@ -23,12 +22,15 @@ use Rattle.tower_run.specs.declared.going.Turn.{Turn}
 use Rattle.tower_run.specs.declared.going.Turn.TheVariants as turn
 use Rattle.tower_run.specs.Paging.{HasPut, HasFailed}
 use Rattle.tower_run.specs.Waiting.{is_named_waiting}
-use Rattle.tower_run.specs.Going.{Course, course_of, by, begun, shown, Part, going_with, going, going_on, looking, seeing, entering, idling, unchosen, ending, once, repeating, applying, choosing, most_turns, NeverStops, NeverPasses, MayStop, Tells, Told, Carries, IsGoing, Shows, Stepped, HasStepped, IsReadyTurn, IsLeftTurn, IsOneTurn, turn_of_put, due_of, task_where, task_left}
+use Rattle.tower_run.specs.Counted.{counted_on}
+use Rattle.tower_run.specs.Scheduler.{priorities_of, monitors_of, names_by, otherwise_by, cores_by, core_by, scheduler_is_lawful, HasReady}
+use Rattle.tower_run.specs.Going.{Course, course_of, by, begun, shown, cored, Part, going_with, going, going_on, looking, seeing, entering, idling, unchosen, ending, once, repeating, applying, choosing, most_turns, NeverStops, NeverPasses, MayStop, Tells, Told, Carries, IsGoing, Shows, Stepped, HasStepped, IsReadyTurn, IsLeftTurn, IsOneTurn, turn_of_put, due_of, task_where, task_left}
 use Rattle.tower_run.proofs.Plans.{Grows, grows_not, see_rests, go_stays, see_stays, go_grows, see_grows, enter_grows, repeated_same, repeated_split, repeated_grows, choose_stays, choose_goes, choose_grows, finished_ends, first_true, look_ends, look_goes, look_after, see_after, idle_stays, idle_rests, idle_goes, idle_grows, unchosen_goes, unchosen_enters, to_end_stays, to_end_rests, to_end_goes, to_end_grows, stopped_ends}
 use Rattle.tower_run.proofs.Ready.{Stepping, after_place, received_place, named_if_any, none_named, any_at, any_ready, ready_at, is_ready_only, unfinished_entry}
 use Rattle.tower_run.proofs.Steps.{failed_grows, told_step, left_none, does_here, then_planned, part_is, makes, entered_planned, enters_none, enters, makes_entry}
 use Rattle.tower_run.proofs.Waited.{one_if, counted_few, waits_few}
-use Rattle.tower_report.specs.RunText.{waits}
+use Rattle.tower_run.proofs.Cored.{counts_length, counts_few}
+use Rattle.task_code.specs.Tally.{waits}
 use Rattle.tower_io.specs.declared.answers.Put.{Put}
 use Rattle.tower_io.specs.declared.answers.Put.TheVariants as put
 
@@ -103,6 +105,7 @@ module _ {S : Type 0} (w : S → Option (List ℕ)) (f : S → ℕ) where
     count = t.count ∙ sym (ap (λ (g : Going). g.count) same);
     left = ap (λ (g : Going). s.left + g.count) same ∙ t.left;
     waits = t.waits ∙ sym (ap (λ (g : Going). g.waits) same);
+    cores = t.cores ∙ sym (ap (λ (g : Going). g.cores.items) same);
     busy = busy ∙ t.busy;
     puts = subst (λ (g : Going). HasPut w f first o g.page.held (shown c s.steps)) (sym same) t.puts;
   }
@@ -133,11 +136,14 @@ module _ {S : Type 0} (w : S → Option (List ℕ)) (f : S → ℕ) where
   after_passed part j r r' o o' g h = still_going j r r' o o' g (λ c s first told. (part c s, (h.on c s first told).0))
 
   -- what is known of the job, in the words of the run
-  pub job_rule : (j : Job) (r : Going) (o : S) → IsGoing w f j r o → j.rule ≡ priorities r.machine.program
+  pub job_rule : (j : Job) (r : Going) (o : S) → IsGoing w f j r o → priorities_of j.rule ≡ priorities r.machine.program
   job_rule j r o g = g.job.rule ∙ ap (λ (d : Course). priorities d.program) (sym g.told.course)
 
   pub job_tasks : (j : Job) (r : Going) (o : S) → IsGoing w f j r o → j.tasks ≡ length r.machine.program.tasks
   job_tasks j r o g = g.job.tasks ∙ ap (λ (d : Course). length d.program.tasks) (sym g.told.course)
+
+  pub job_monitors : (j : Job) (r : Going) (o : S) → IsGoing w f j r o → IfSome (monitors_of j.rule) (λ n. n ≡ length r.machine.program.monitors)
+  job_monitors j r o g = let P : Course → Type 0 = λ d. IfSome (monitors_of j.rule) (λ n. n ≡ length d.program.monitors) in subst P (sym g.told.course) g.job.monitors
 
   pub job_busy : (j : Job) (r : Going) (o : S) → IsGoing w f j r o → length r.busy.items ≡ length r.machine.program.tasks
   job_busy j r o g = g.told.busy ∙ ap (λ (d : Course). length d.program.tasks) (sym g.told.course)
@@ -145,12 +151,13 @@ module _ {S : Type 0} (w : S → Option (List ℕ)) (f : S → ℕ) where
   -- ---- an instruction
 
   module _ (j : Job) (r : Going) (o : S) where
-    pub advanced : (r2 r' : Going) (o' : S) (k : ℕ) (named : Option ℕ) (m : Option Mark) (n : State) (b : Bool) (result : Turn) → Stepping r.machine named m n → r.count < j.limit
-        → r2.machine ≡ n → r2.count ≡ r.count + 1 → r2.waits ≡ r.waits + one_if b → b ≡ (j.counts_waits && is_named_waiting r.machine k) → length r2.busy.items ≡ length r.busy.items → r2.page ≡ r.page
+    pub advanced : (r2 r' : Going) (o' : S) (k : ℕ) (named : Option ℕ) (m : Option Mark) (n : State) (b : Bool) (core : Option ℕ) (result : Turn)
+        → priorities_of j.rule ≡ priorities r.machine.program → (HasReady (ready r.machine) → core ≡ core_by j.rule (ready r.machine) k) → r2.cores.items ≡ counted_on r.cores.items core → Stepping r.machine named m n → r.count < j.limit
+        → r2.machine ≡ n → r2.count ≡ r.count + 1 → r2.waits ≡ r.waits + one_if b → b ≡ (j.counts_waits && is_named_waiting j.rule r.machine k) → length r2.busy.items ≡ length r.busy.items → r2.page ≡ r.page
         → Shows w f j.arch.now m r2 o r' o' result → Carries w f (going_with k named) j r o r' o' result
-    advanced r2 r' o' k named m n b result st less is_n is_count is_waits is_b is_busy is_page shows = record {
+    advanced r2 r' o' k named m n b core result rule is_core is_cores st less is_n is_count is_waits is_b is_busy is_page shows = record {
       on = λ c s first told.
-          let made = makes w f c s j r first o told named m n st less k r2 b is_n is_count is_waits is_b is_busy is_page in
+          let made = makes w f c s j r first o told named m n st less k r2 b core rule is_core is_cores is_n is_count is_waits is_b is_busy is_page in
           let planned = then_planned w f c s j r first o told named m n st less k in
           told_plan c s planned (going_with k named c s) first j r' o' result (sym (part_is w f c s j r first o told named m n st less k))
           (told_step w f c s planned (plan.goes k st.task) j r r2 r' m first o o' told made result shows);
@@ -174,33 +181,33 @@ module _ {S : Type 0} (w : S → Option (List ℕ)) (f : S → ℕ) where
       count = told.count;
       left = told.left;
       waits = told.waits;
+      cores = told.cores;
       busy = told.busy;
       puts = told.puts;
     }
 
-    pub picked_is : (c : Course) (s : Planning) (first : S) → Tells w f c s false first j r o → j.rule ≡ priorities r.machine.program → (k : ℕ)
-        → fixed_names j.rule (ready r.machine) (holds r.machine) k ≡ picked (by c) c.program c.events c.limit s.run.machine k
-    picked_is c s first told rule k =
-        ap (λ ps. fixed_names ps (ready r.machine) (holds r.machine) k) rule
-        ∙ ap (λ (d : Course). picked (by d) d.program d.events d.limit r.machine.machine k) told.course
+    pub picked_is : (c : Course) (s : Planning) (first : S) → Tells w f c s false first j r o → (k : ℕ)
+        → names_by j.rule (ready r.machine) (holds r.machine) k ≡ picked (by c) c.program c.events c.limit s.run.machine k
+    picked_is c s first told k =
+        ap (λ (d : Course). picked (by d) d.program d.events d.limit r.machine.machine k) told.course
         ∙ ap (λ m. picked (by c) c.program c.events c.limit m k) (sym told.machine)
 
-    pub going_is : (k : ℕ) → j.rule ≡ priorities r.machine.program → (c : Course) (s : Planning) (first : S) → Tells w f c s false first j r o → going_with k (fixed_names j.rule (ready r.machine) (holds r.machine) k) c s ≡ going k c s
-    going_is k rule c s first told = ap (plan.go_with (by c) c.program c.events c.limit k s) (picked_is c s first told rule k)
+    pub going_is : (k : ℕ) (c : Course) (s : Planning) (first : S) → Tells w f c s false first j r o → going_with k (names_by j.rule (ready r.machine) (holds r.machine) k) c s ≡ going k c s
+    going_is k c s first told = ap (plan.go_with (by c) c.program c.events c.limit k s) (picked_is c s first told k)
 
-    pub go_due : (k : ℕ) (b : Bool) → j.rule ≡ priorities r.machine.program → j.limit ≤ r.count → b ≡ list_any (λ b. b) (ready r.machine) → Carries w f (going k) j r o r o (due_of b)
-    go_due k true rule full any = record {
+    pub go_due : (k : ℕ) (b : Bool) → j.limit ≤ r.count → b ≡ list_any (λ b. b) (ready r.machine) → Carries w f (going k) j r o r o (due_of b)
+    go_due k true full any = record {
       on = λ c s first told.
-          let x = named_if_any (ready r.machine) (fixed_names j.rule (ready r.machine) (holds r.machine) k) (fixed_is_lawful j.rule (ready r.machine) (holds r.machine) k) (sym any) in
+          let x = named_if_any (ready r.machine) (names_by j.rule (ready r.machine) (holds r.machine) k) (scheduler_is_lawful j.rule (ready r.machine) (holds r.machine) k) (sym any) in
           let is : going k c s ≡ record s { stopped = true } =
-          ap (plan.go_with (by c) c.program c.events c.limit k s) (sym (picked_is c s first told rule k) ∙ x.1)
+          ap (plan.go_with (by c) c.program c.events c.limit k s) (sym (picked_is c s first told k) ∙ x.1)
           ∙ ap (plan.instruct (by c) c.program c.events c.limit k x.0 s) (left_none w f c s j r first o told full) in
           tells_plan c (record s { stopped = true }) (going k c s) true first j r o (sym is) (has_stopped c s first told full);
     }
-    go_due k false rule full any = record {
+    go_due k false full any = record {
       on = λ c s first told.
-          let none = none_named (ready r.machine) (fixed_names j.rule (ready r.machine) (holds r.machine) k) (fixed_is_lawful j.rule (ready r.machine) (holds r.machine) k) (sym any) in
-          let is : going k c s ≡ s = ap (plan.go_with (by c) c.program c.events c.limit k s) (sym (picked_is c s first told rule k) ∙ none) in
+          let none = none_named (ready r.machine) (names_by j.rule (ready r.machine) (holds r.machine) k) (scheduler_is_lawful j.rule (ready r.machine) (holds r.machine) k) (sym any) in
+          let is : going k c s ≡ s = ap (plan.go_with (by c) c.program c.events c.limit k s) (sym (picked_is c s first told k) ∙ none) in
           (tells_plan c s (going k c s) false first j r o (sym is) told, is);
     }
 
@@ -355,9 +362,9 @@ module _ {S : Type 0} (w : S → Option (List ℕ)) (f : S → ℕ) where
   pub see_passes : (k : ℕ) (j : Job) (r r' : Going) (o o' : S) → Carries w f (going k) j r o r' o' turn.Passed → Carries w f (seeing k) j r o r' o' turn.Passed
   see_passes k j r r' o o' h = passes_so (going k) (seeing k) j r r' o o' (λ c s e. see_rests (by c) c.program c.events c.limit k s e) h
 
-  module _ (k x : ℕ) (j : Job) (r r' : Going) (o o' : S) (rule : j.rule ≡ priorities r.machine.program) (named : fixed_names j.rule (ready r.machine) (holds r.machine) k ≡ Some x) (h : Carries w f (going k) j r o r' o' turn.Went) (stepped : Stepped x r r') where
+  module _ (k x : ℕ) (j : Job) (r r' : Going) (o o' : S) (named : names_by j.rule (ready r.machine) (holds r.machine) k ≡ Some x) (h : Carries w f (going k) j r o r' o' turn.Went) (stepped : Stepped x r r') where
     picks : (c : Course) (s : Planning) (first : S) → Tells w f c s false first j r o → picked (by c) c.program c.events c.limit s.run.machine k ≡ Some x
-    picks c s first told = sym (picked_is j r o c s first told rule k) ∙ named
+    picks c s first told = sym (picked_is j r o c s first told k) ∙ named
 
     goes_so : Carries w f (going_on k x) j r o r' o' turn.Went
     goes_so = carries_part (going k) (going_on k x) j r r' o o' turn.Went (λ c s first told. ap (plan.go_with (by c) c.program c.events c.limit k s) (picks c s first told)) h
@@ -409,18 +416,25 @@ module _ {S : Type 0} (w : S → Option (List ℕ)) (f : S → ℕ) where
   finished_is c s first j r o told =
       ap (is_finished c.program c.events) told.machine ∙ ap (λ (d : Course). is_finished d.program d.events r.machine.machine) (sym told.course)
 
+  -- the number of the `go`, in the words of the plan
+  otherwise_is : (c : Course) (s : Planning) (first : S) (j : Job) (r : Going) (o : S) → Tells w f c s false first j r o → otherwise_by c.rule (c.limit - s.left) ≡ otherwise_by j.rule r.count
+  otherwise_is c s first j r o told =
+      let count : c.limit - s.left ≡ r.count = omega (arith, told.left) in
+      ap (otherwise_by c.rule) count ∙ ap (λ (d : Course). otherwise_by d.rule r.count) (sym told.course)
+
   -- a task went, where one was ready
-  pub unchosen_went : (j : Job) (r r' : Going) (o o' : S) (result : Turn) → list_any (λ b. b) (ready r.machine) ≡ true → Carries w f (going 0) j r o r' o' result → Carries w f unchosen j r o r' o' result
-  unchosen_went j r r' o o' result any h =
-      carries_part (going 0) unchosen j r r' o o' result (λ c s first told. sym (unchosen_goes (by c) c.program c.events c.limit s (any_is c s first j r o told ∙ any))) h
+  pub unchosen_went : (k : ℕ) (j : Job) (r r' : Going) (o o' : S) (result : Turn) → k ≡ otherwise_by j.rule r.count → list_any (λ b. b) (ready r.machine) ≡ true → Carries w f (going k) j r o r' o' result → Carries w f unchosen j r o r' o' result
+  unchosen_went k j r r' o o' result is any h =
+      carries_part (going k) unchosen j r r' o o' result
+      (λ c s first told. ap (λ n. going n c s) (is ∙ sym (otherwise_is c s first j r o told)) ∙ sym (unchosen_goes (by c) c.program c.events c.limit s (any_is c s first j r o told ∙ any))) h
 
   -- none was, and an entry comes
-  pub unchosen_came : (j : Job) (r r' r2 : Going) (o o' o2 : S) (result : Turn) → list_any (λ b. b) (ready r.machine) ≡ false → Carries w f (going 0) j r o r' o' turn.Passed → Carries w f entering j r' o' r2 o2 result → Carries w f unchosen j r o r2 o2 result
-  unchosen_came j r r' r2 o o' o2 result none h next = record {
+  pub unchosen_came : (k : ℕ) (j : Job) (r r' r2 : Going) (o o' o2 : S) (result : Turn) → list_any (λ b. b) (ready r.machine) ≡ false → Carries w f (going k) j r o r' o' turn.Passed → Carries w f entering j r' o' r2 o2 result → Carries w f unchosen j r o r2 o2 result
+  unchosen_came k j r r' r2 o o' o2 result none h next = record {
     on = λ c s first told.
         let now = h.on c s first told in
         told_plan c s (entering c s) (unchosen c s) first j r2 o2 result (sym (unchosen_enters (by c) c.program c.events c.limit s (any_is c s first j r o told ∙ none)))
-        (next.on c s first (tells_plan c (going 0 c s) s false first j r' o' now.1 now.0));
+        (next.on c s first (tells_plan c (going k c s) s false first j r' o' now.1 now.0));
   }
 
   -- what was passed over has changed nothing of the machine
@@ -606,7 +620,22 @@ module _ {S : Type 0} (w : S → Option (List ℕ)) (f : S → ℕ) where
       let few = counted_few g.course.counting (waits (by g.course) g.course.program g.course.events (begun g.course) g.planned.steps) (plan.instructions g.planned.steps) (waits_few (by g.course) g.course.program g.course.events (begun g.course) g.planned.steps) in
       omega (arith, few, t.waits, t.count)
 
-  pub rule_length : (j : Job) (r : Going) (o : S) → IsGoing w f j r o → length j.rule ≡ length r.machine.program.tasks
+  -- a core has no more instructions than there are
+  pub few_on_cores : (j : Job) (r : Going) (o : S) (core : Option ℕ) → IsGoing w f j r o → r.count < j.limit → IfSome core (λ i. i < cores_by j.rule) → IfSome core (λ i. (i < length r.cores.items) × (slice_index r.cores.items i + 1 < 2 ^ 64))
+  few_on_cores j r o None g less below = tt
+  few_on_cores j r o (Some i) g less below =
+      let t = g.told in
+      let c = g.course in
+      let same : cores_by j.rule ≡ cores_by c.rule = ap (λ (d : Course). cores_by d.rule) t.course in
+      let here : i < cores_by c.rule = omega (arith, below, same) in
+      let long : length (cored c g.planned.steps) ≡ cores_by c.rule = counts_length (cores_by c.rule) c.program c.events g.planned.steps in
+      let few : slice_index (cored c g.planned.steps) i ≤ plan.instructions g.planned.steps = counts_few (cores_by c.rule) c.program c.events g.planned.steps i here in
+      let long' : length (cored c g.planned.steps) ≡ length r.cores.items = ap length t.cores in
+      let few' : slice_index (cored c g.planned.steps) i ≡ slice_index r.cores.items i = ap (λ l. slice_index l i) t.cores in
+      let limit : j.limit ≡ c.limit = ap (λ (d : Course). d.limit) t.course in
+      (omega (arith, here, long, long'), omega (arith, few, few', t.count, less, limit, g.job.limit))
+
+  pub rule_length : (j : Job) (r : Going) (o : S) → IsGoing w f j r o → length (priorities_of j.rule) ≡ length r.machine.program.tasks
   rule_length j r o g = ap length (job_rule j r o g) ∙ length-map r.machine.program.tasks (λ t. t.priority)
 
   -- ---- what is known of an entry

@@ -3,6 +3,8 @@ pub mod Replays
 pub mod Paging
 pub mod Accepted
 pub mod Waited
+pub mod Cored
+pub mod Raising
 pub mod Ready
 pub mod Steps
 pub mod Carried

@@ -10,13 +10,15 @@ use Rattle.tower_syntax.specs.declared.event.Mark.{Mark}
 use Rattle.tower_syntax.specs.declared.event.Mark.TheVariants as mark
 use Rattle.task_code.specs.Program.{Program}
 use Rattle.task_code.specs.Machine.{Machine, next_does, after, received}
-use Rattle.task_code.specs.Standing.{IsReady, standing}
+use Rattle.task_code.specs.Standing.{IsReady, standing, standings, is_ready}
 use Rattle.task_code.specs.Run.{Run, Turn, Event, step, steps_from, if_ready, turned, came, written_by}
 use Rattle.task_code.specs.Plan as plan
 use Rattle.task_code.specs.Plan.{Planned, goes, comes, step_of, Planning, instructions}
-use Rattle.task_machine.specs.State.{State, first_of, does_next, standing_in, next_entry, wrote_last, arrived}
+use Rattle.task_machine.specs.State.{State, ready, first_of, does_next, standing_in, next_entry, wrote_last, arrived}
 use Rattle.tower_report.specs.MarkText.{mark_line}
-use Rattle.tower_report.specs.RunText.{steps_text, step_text, does_text, waits_before, waits}
+use Rattle.task_code.specs.Policy.{priorities}
+use Rattle.task_code.specs.Tally.{waits_before, waits}
+use Rattle.tower_report.specs.RunText.{steps_text, step_text, does_text}
 use Rattle.tower_report.proofs.Steps.{instructions_append, steps_text_push, steps_text_append}
 use Rattle.tower_run.specs.declared.going.Job.{Job}
 use Rattle.tower_run.specs.declared.going.Going.{Going}
@@ -24,13 +26,16 @@ use Rattle.tower_run.specs.declared.going.Turn.{Turn as Result}
 use Rattle.tower_run.specs.Paging.{HasPut, HasFailed, AfterPut}
 use Rattle.tower_run.specs.Pieces.{lines_text, IsMessage, IfMark, IfWrote, AreFitLines}
 use Rattle.tower_run.specs.Waiting.{is_named_waiting}
-use Rattle.tower_run.specs.Going.{Course, course_of, by, begun, shown, waited, going_with, entering, Tells, Told, IsJob, Shows, turn_of_put}
+use Rattle.tower_run.specs.Counted.{counted_on}
+use Rattle.tower_run.specs.Scheduler.{priorities_of, cores_by, core_by, HasReady}
+use Rattle.tower_run.specs.Going.{Course, course_of, by, begun, shown, waited, cored, going_with, entering, Tells, Told, IsJob, Shows, turn_of_put}
 use Rattle.tower_run.proofs.Replays.{outputs_fit}
 use Rattle.tower_run.proofs.Accepted.{accepted_is_safe, messages_fit, tasks_count}
 use Rattle.tower_run.proofs.Paging.{failed_same, failed_longer}
 use Rattle.tower_run.proofs.Plans.{Grows}
-use Rattle.tower_run.proofs.Ready.{Stepping, ready_within, mark_fits, last_message, does_lines}
+use Rattle.tower_run.proofs.Ready.{Stepping, ready_within, ready_at, mark_fits, last_message, does_lines}
 use Rattle.tower_run.proofs.Waited.{one_if, waits_push, counted_more}
+use Rattle.tower_run.proofs.Cored.{cored_goes, counts_comes}
 
 steps_push : (p : Program) (events : Events) (o : Option Run) (ss : List Planned) (z : Planned) (r : Run) → steps_from p events o (map step_of ss) ≡ Some r → steps_from p events o (map step_of (ss ++ z ∷ [])) ≡ step p events r (step_of z)
 steps_push p events None [] z r e = cc
@@ -67,6 +72,7 @@ module _ {S : Type 0} (w : S → Option (List ℕ)) (f : S → ℕ) where
     pub count : instructions t.steps ≡ r2.count
     pub left : t.left + r2.count ≡ c.limit
     pub waits : waited c t.steps ≡ r2.waits
+    pub cores : cored c t.steps ≡ r2.cores.items
     pub busy : length r2.busy.items ≡ length c.program.tasks
     pub page : r2.page ≡ r.page
     pub lines : step_text c.arch c.program s.run.machine (instructions s.steps) z ≡ lines_text j.arch.now r2.count m (wrote_last r2.machine)
@@ -88,6 +94,7 @@ module _ {S : Type 0} (w : S → Option (List ℕ)) (f : S → ℕ) where
       count = made.count ∙ sym (ap (λ (g : Going). g.count) same);
       left = ap (λ n. t.left + n) (ap (λ (g : Going). g.count) same) ∙ made.left;
       waits = made.waits ∙ sym (ap (λ (g : Going). g.waits) same);
+      cores = made.cores ∙ sym (ap (λ (g : Going). g.cores.items) same);
       busy = ap (λ (g : Going). length g.busy.items) same ∙ made.busy;
       puts = h;
     }
@@ -104,7 +111,7 @@ module _ {S : Type 0} (w : S → Option (List ℕ)) (f : S → ℕ) where
         subst (λ u. Told w f c s t first j r' o' u) (sym h.is) now
 
 abbrev course_with : Job → State → Course
-course_with j u = record { arch = j.arch.now; program = u.program; events = events_of u.events; limit = j.limit; counting = j.counts_waits }
+course_with j u = record { arch = j.arch.now; program = u.program; events = events_of u.events; limit = j.limit; rule = j.rule; counting = j.counts_waits }
 
 -- ---- an instruction
 
@@ -130,10 +137,16 @@ module _ {S : Type 0} (w : S → Option (List ℕ)) (f : S → ℕ) (c : Course)
   pub does_here : (x : ℕ) → next_does c.program s.run.machine x ≡ does_next r.machine x
   does_here x = ap (λ m. next_does c.program m x) told.machine ∙ ap (λ (d : Course). next_does d.program r.machine.machine x) (sym told.course)
 
-  pub waits_here : (k x : ℕ) → waits_before (by c) c.program c.events s.run.machine (goes k x) ≡ is_named_waiting r.machine k
+  pub waits_here : (k x : ℕ) → waits_before (by c) c.program c.events s.run.machine (goes k x) ≡ is_named_waiting j.rule r.machine k
   waits_here k x =
       ap (λ m. waits_before (by c) c.program c.events m (goes k x)) told.machine
       ∙ ap (λ (d : Course). waits_before (by d) d.program d.events r.machine.machine (goes k x)) (sym told.course)
+
+  -- the core of an instruction, in the words of the run
+  core_here : (k : ℕ) → core_by c.rule (map is_ready (standings c.program c.events s.run.machine)) k ≡ core_by j.rule (ready r.machine) k
+  core_here k =
+      ap (λ m. core_by c.rule (map is_ready (standings c.program c.events m)) k) told.machine
+      ∙ ap (λ (d : Course). core_by d.rule (map is_ready (standings d.program d.events r.machine.machine)) k) (sym told.course)
 
   module _ (named : Option ℕ) (m : Option Mark) (n : State) (st : Stepping r.machine named m n) (less : r.count < j.limit) (k : ℕ) where
     abbrev pub next : Run
@@ -157,9 +170,9 @@ module _ {S : Type 0} (w : S → Option (List ℕ)) (f : S → ℕ) (c : Course)
         ∙ ap (λ d. after r.machine.machine st.task d) (ap (λ (d : Course). next_does d.program r.machine.machine st.task) (sym told.course))
         ∙ ap (λ (u : State). u.machine) (sym st.after)
 
-    pub makes : (r2 : Going) (b : Bool) → r2.machine ≡ n → r2.count ≡ r.count + 1 → r2.waits ≡ r.waits + one_if b → b ≡ (j.counts_waits && is_named_waiting r.machine k) → length r2.busy.items ≡ length r.busy.items → r2.page ≡ r.page
+    pub makes : (r2 : Going) (b : Bool) (core : Option ℕ) → priorities_of j.rule ≡ priorities r.machine.program → (HasReady (ready r.machine) → core ≡ core_by j.rule (ready r.machine) k) → r2.cores.items ≡ counted_on r.cores.items core → r2.machine ≡ n → r2.count ≡ r.count + 1 → r2.waits ≡ r.waits + one_if b → b ≡ (j.counts_waits && is_named_waiting j.rule r.machine k) → length r2.busy.items ≡ length r.busy.items → r2.page ≡ r.page
         → Makes w f c s then_planned (goes k st.task) j r r2 m
-    makes r2 b is_n is_count is_waits is_b is_busy is_page =
+    makes r2 b core rule is_core is_cores is_n is_count is_waits is_b is_busy is_page =
         let counting_is : j.counts_waits ≡ c.counting = ap (λ (d : Course). d.counting) told.course in
         let pushed = waits_push (by c) c.program c.events (begun c) s.steps (goes k st.task) s.run told.leads in
         let one : instructions (s.steps ++ goes k st.task ∷ []) ≡ r2.count = omega (arith, instructions_append s.steps (goes k st.task ∷ []), told.count, is_count) in
@@ -174,7 +187,13 @@ module _ {S : Type 0} (w : S → Option (List ℕ)) (f : S → ℕ) (c : Course)
           waits =
               counted_more c.counting (waits_before (by c) c.program c.events s.run.machine (goes k st.task)) (waits (by c) c.program c.events (begun c) s.steps) (waits (by c) c.program c.events (begun c) (s.steps ++ goes k st.task ∷ [])) r.waits r2.waits
               pushed told.waits
-              (is_waits ∙ ap (λ v. r.waits + one_if v) (is_b ∙ ap (λ v. v && is_named_waiting r.machine k) counting_is ∙ ap (λ v. c.counting && v) (sym (waits_here k st.task))));
+              (is_waits ∙ ap (λ v. r.waits + one_if v) (is_b ∙ ap (λ v. v && is_named_waiting j.rule r.machine k) counting_is ∙ ap (λ v. c.counting && v) (sym (waits_here k st.task))));
+          cores =
+              let made_for : priorities_of c.rule ≡ priorities c.program = let P : Course → Type 0 = λ d. priorities_of d.rule ≡ priorities d.program in subst P told.course rule in
+              let now : core_by c.rule (map is_ready (standings c.program c.events s.run.machine)) k ≡ core = core_here k ∙ sym (is_core (st.task, ready_at r.machine st.task st.stands)) in
+              cored_goes c.rule c.program c.events s.steps k st.task s.run made_for told.leads
+              ∙ ap (counted_on (cored c s.steps)) now
+              ∙ ap (λ l. counted_on l core) told.cores ∙ sym is_cores;
           busy = is_busy ∙ told.busy;
           page = is_page;
           lines =
@@ -253,6 +272,7 @@ module _ {S : Type 0} (w : S → Option (List ℕ)) (f : S → ℕ) (c : Course)
           waits =
               counted_more c.counting false (waits (by c) c.program c.events (begun c) s.steps) (waits (by c) c.program c.events (begun c) (s.steps ++ comes ∷ [])) r.waits r2.waits
               pushed told.waits (is_waits ∙ no_more c.counting r.waits);
+          cores = counts_comes (cores_by c.rule) c.program c.events s.steps s.run told.leads ∙ told.cores ∙ sym (ap (λ (g : Going). g.cores.items) same);
           busy = ap (λ (g : Going). length g.busy.items) same ∙ told.busy;
           page = ap (λ (g : Going). g.page) same;
           lines =

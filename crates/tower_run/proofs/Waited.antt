@@ -6,12 +6,12 @@ use Rattle.task_code.specs.Program.{Program}
 use Rattle.task_code.specs.Run.{Run, step, steps_from}
 use Rattle.task_code.specs.Policy.{Policy}
 use Rattle.task_code.specs.Plan.{Planned, goes, comes, step_of, instructions}
-use Rattle.tower_report.specs.RunText.{waits, waits_before}
+use Rattle.task_code.specs.Tally.{waits, waits_before}
 
 abbrev pub one_if : Bool → ℕ
 one_if b = cond b 1 0
 
-at_most_one : (b : Bool) → one_if b ≤ 1
+pub at_most_one : (b : Bool) → one_if b ≤ 1
 at_most_one true = omega arith
 at_most_one false = omega arith
 

@@ -1,5 +1,5 @@
 -- A run that is going on, as the plan has it, with its text.
-use Rattle.std.specs.Prelude.{◌≡◌, ℕ, suc, ◌+◌, ◌-◌, ◌≤◌, List, map, length, cond, Bool, true, false, ◌||◌, not, Option, Some, None}
+use Rattle.std.specs.Prelude.{◌≡◌, ℕ, suc, ◌+◌, ◌-◌, ◌≤◌, List, map, length, cond, Bool, true, false, ◌||◌, not, Option, Some, None, IfSome}
 use Rattle.std.specs.List.{list_any}
 use Rattle.tower_syntax.specs.declared.event.Choice.{Choice}
 use Rattle.tower_syntax.specs.declared.event.Choice.TheVariants as choice
@@ -14,25 +14,29 @@ use Rattle.lock_reduction.specs.Reduce.{Sound}
 use Rattle.task_code.specs.Program.{Program}
 use Rattle.task_code.specs.Standing.{IsReady, is_ready, is_finished}
 use Rattle.task_code.specs.Run.{Run, steps_from, first_run}
-use Rattle.task_code.specs.Policy.{Policy, fixed, priorities}
+use Rattle.task_code.specs.Policy.{Policy, priorities}
 use Rattle.task_code.specs.Plan as plan
 use Rattle.task_code.specs.Plan.{Planned, Planning, step_of, instructions, repeated}
 use Rattle.task_machine.specs.State.{State, Turned, turn_of, does_next, standing_in, wrote_last}
 use Rattle.tower_report.specs.Bytes.{Bytes}
-use Rattle.tower_report.specs.RunText.{steps_text, waits}
+use Rattle.task_code.specs.Tally.{waits, core_counts}
+use Rattle.tower_report.specs.RunText.{steps_text}
 use Rattle.tower_run.specs.declared.going.Job.{Job}
 use Rattle.tower_run.specs.declared.going.Going.{Going}
 use Rattle.tower_run.specs.declared.going.Turn.{Turn}
 use Rattle.tower_run.specs.declared.going.Turn.TheVariants as turn
+use Rattle.tower_run.specs.declared.scheduler.Scheduler.{Scheduler}
+use Rattle.tower_run.specs.Scheduler.{priorities_of, monitors_of, policy_by, cores_by}
 use Rattle.tower_run.specs.Paging.{HasPut, HasFailed, PutsOver}
 use Rattle.tower_run.specs.Pieces.{lines_text}
 
--- what a run is of; `counting` says whether the waits are counted
+-- what a run is of, and by which rule it goes; `counting` says whether the waits are counted
 pub record Course : Type 0 where
   pub arch : Arch
   pub program : Program
   pub events : Events
   pub limit : ℕ
+  pub rule : Scheduler
   pub counting : Bool
 
 abbrev pub course_of : Job → Going → Course
@@ -41,13 +45,14 @@ course_of j r = record {
   program = r.machine.program;
   events = events_of r.machine.events;
   limit = j.limit;
+  rule = j.rule;
   counting = j.counts_waits;
 }
 
 -- ---- the parts of the plan
 
 abbrev pub by : Course → Policy
-by c = fixed c.program
+by c = policy_by c.rule
 
 abbrev pub begun : Course → Option Run
 begun c = Some (first_run c.program c.events)
@@ -109,9 +114,15 @@ shown c steps = steps_text c.arch c.program c.events 0 (begun c) steps
 abbrev pub waited : Course → List Planned → ℕ
 waited c steps = cond c.counting (waits (by c) c.program c.events (begun c) steps) 0
 
--- what stays: the program is sound for the system, which was accepted, and the rule is that of the program
+-- the number of instructions of these steps on each core that the rule tells apart
+abbrev pub cored : Course → List Planned → List ℕ
+cored c steps = core_counts (cores_by c.rule) c.program c.events steps
+
+-- what stays: the program is sound for the system, which was accepted, and the rule was made for the program
 pub record IsJob (j : Job) (c : Course) : Type 0 where
-  pub rule : j.rule ≡ priorities c.program
+  pub rule : priorities_of j.rule ≡ priorities c.program
+  pub monitors : IfSome (monitors_of j.rule) (λ n. n ≡ length c.program.monitors)
+  pub cores : cores_by j.rule ≤ 64
   pub tasks : j.tasks ≡ length c.program.tasks
   pub accepted : (bs : List ℕ) × IsAccepted bs c.arch
   pub sound : Sound c.arch c.program
@@ -133,6 +144,7 @@ module _ {S : Type 0} (written : S → Option (List ℕ)) (faults : S → ℕ) w
     pub count : instructions s.steps ≡ r.count
     pub left : s.left + r.count ≡ c.limit
     pub waits : waited c s.steps ≡ r.waits
+    pub cores : cored c s.steps ≡ r.cores.items
     pub busy : length r.busy.items ≡ length c.program.tasks
     pub puts : HasPut written faults first out r.page.held (shown c s.steps)
 

@@ -1,7 +1,10 @@
 pub mod Paging
 pub mod Pieces
 pub mod Only
+pub mod Scheduler
 pub mod Waiting
+pub mod Counted
+pub mod Ceilings
 pub mod Going
 pub mod LastText
 pub mod Ending

@@ -7,7 +7,7 @@ use Rattle.tower_syntax.specs.Weights.{states_of}
 use Rattle.task_machine.specs.State.{State, wrote_last}
 use Rattle.tower_report.specs.Bytes.{Bytes}
 use Rattle.tower_report.specs.MarkText.{IsMarkOf, mark_line, out_line, output_shape}
-use Rattle.tower_report.specs.EndText.{monitor_text, shown_by, lost_text, count_line, waits_line, last_line}
+use Rattle.tower_report.specs.EndText.{monitor_text, shown_by, lost_text, count_line, waits_line, core_line, last_line}
 use Rattle.tower_report.specs.ValueText.{shapes_in, shapes_depth, shapes_words}
 use Rattle.tower_run.specs.declared.piece.Piece.{Piece}
 use Rattle.tower_run.specs.declared.piece.Piece.TheVariants as piece
@@ -31,6 +31,7 @@ piece_text arch s (piece.Monitor m) = monitor_text arch m (shown_by (slice_get s
 piece_text arch s (piece.Lost x) = lost_text arch x (slice_index s.machine.lost x)
 piece_text arch s (piece.Count n) = count_line n
 piece_text arch s (piece.Waits n) = waits_line n
+piece_text arch s (piece.Core i n) = core_line i n
 piece_text arch s (piece.End stopped) = last_line stopped
 
 -- ---- which of them can be put
@@ -70,4 +71,5 @@ IsFitPiece arch s (piece.Monitor m) = IsFitMonitor arch s m
 IsFitPiece arch s (piece.Lost x) = IsFitSource arch s x
 IsFitPiece arch s (piece.Count n) = Unit {0}
 IsFitPiece arch s (piece.Waits n) = Unit {0}
+IsFitPiece arch s (piece.Core i n) = Unit {0}
 IsFitPiece arch s (piece.End stopped) = Unit {0}

@@ -13,7 +13,7 @@ use crate::page::Page;
 use task_machine::Machine;
 use tower_io::{Put, Sink};
 use tower_report::{
-    put_count, put_end, put_held, put_lost, put_mark, put_out, put_states, put_waits,
+    put_core, put_count, put_end, put_held, put_lost, put_mark, put_out, put_states, put_waits,
 };
 use tower_syntax::{Arch, Mark};
 
@@ -30,6 +30,8 @@ pub enum Piece {
     Count(u64),
     /// The number of instructions before which the rule named a waiting task.
     Waits(u64),
+    /// The number of instructions on a core.
+    Core(u32, u64),
     /// The last line, which says whether the run stopped.
     End(bool),
 }
@@ -96,6 +98,7 @@ fn put_piece<S: Sink>(out: &mut S, arch: &Arch, machine: &Machine, piece: Piece)
         Piece::Lost(x) => put_lost(out, arch, x, machine.lost(x)),
         Piece::Count(n) => put_count(out, n),
         Piece::Waits(n) => put_waits(out, n),
+        Piece::Core(i, n) => put_core(out, i, n),
         Piece::End(stopped) => put_end(out, stopped),
     }
 }

@@ -1,21 +1,23 @@
 //! The run of a program, with its text.
-ghost use Rattle.std.specs.Prelude.{◌≡◌, ◌≤◌, map, cond, IfOk, Some, None};
+ghost use Rattle.std.specs.Prelude.{◌≡◌, ◌≤◌, map, cond, IfOk, IfSome, Some, None};
 ghost use Rattle.tower_syntax.specs.View.{events_of};
 ghost use Rattle.tower_meaning.specs.Atomic.{Fit};
 ghost use Rattle.lock_reduction.specs.Reduce.{Sound};
 ghost use Rattle.task_code.specs.Fits.{Fits};
-ghost use Rattle.tower_report.specs.RunText.{run_text};
+ghost use Rattle.tower_report.specs.RunText.{run_text, IsRule};
 ghost use Rattle.tower_run.specs.Going.{IsGoing};
 ghost use Rattle.tower_run.specs.Ending.{run_stops, RunEnds, ran_of, IsBegun, CanEnd, EndsRun, CarriesOut};
 
+use crate::ceilings::ceilings_for;
 use crate::choices::choose;
 use crate::ending::{End, put_ending};
 use crate::going::{Going, Job, Turn};
 use crate::page::Page;
+use crate::scheduler::{Scheduler, is_counting};
 use arch_checks::Checked;
 use std::alloc::Global;
 use task_code::{Program, Task};
-use task_machine::{Fixed, Machine};
+use task_machine::Machine;
 use tower_io::{Put, Sink};
 use tower_report::Rule;
 use tower_syntax::{Choice, Events};
@@ -37,7 +39,7 @@ pub enum Ran {
 /// A run that has not begun, with the rule for turns and the number of tasks.
 #[derive(Drop)]
 struct Begun {
-    rule: Fixed,
+    rule: Scheduler,
     tasks: u32,
     run: Going,
 }
@@ -54,13 +56,23 @@ fn priorities_of(alloc: Global, tasks: &[Task]) -> Result<Vec<u8>, NoMemory>
 }
 
 /// The start of a run, with all the memory that it takes.
-fn begin(alloc: Global, program: Program, events: Events) -> Result<Begun, NoMemory>
-    requires { Fits program (events_of events) }
-    ensures { IfOk result (λ begun. IsBegun program events begun) }
+fn begin(
+    alloc: Global,
+    arch: &Checked,
+    program: Program,
+    events: Events,
+    given: Option<Rule>,
+) -> Result<Begun, NoMemory>
+    requires fits { Fits program (events_of events) }
+    requires given { IfSome given IsRule }
+    ensures { IfOk result (λ begun. IsBegun arch.now program events given begun) }
 {
     let tasks = program.tasks().len() as u32;
-    let rule = Fixed::new(priorities_of(alloc, program.tasks())?);
+    let priorities = priorities_of(alloc, program.tasks())?;
+    let ceilings = ceilings_for(alloc, arch, given)?;
+    let rule = Scheduler::new(given, priorities, ceilings);
     let busy = vec![in alloc; false; tasks as usize]?;
+    let cores = vec![in alloc; 0; rule.cores() as usize]?;
     let page = Page::new(alloc)?;
     let machine = Machine::new(alloc, program, events)?;
     let run = Going {
@@ -69,6 +81,7 @@ fn begin(alloc: Global, program: Program, events: Events) -> Result<Begun, NoMem
         busy,
         count: 0,
         waits: 0,
+        cores,
     };
     Ok(Begun { rule, tasks, run })
 }
@@ -103,6 +116,7 @@ fn end<O: Sink>(job: &Job, run: &mut Going, stopped: bool, out: &mut O) -> Ran
     let end = End {
         count: run.count,
         waits: waits_of(job, run),
+        cores: run.cores.as_slice(),
         stopped,
     };
     match put_ending(&mut run.page, out, job.arch, &run.machine, end) {
@@ -125,8 +139,9 @@ fn carry_out<O: Sink>(job: &Job, run: &mut Going, choices: &[Choice], out: &mut 
 }
 
 /// Runs a program that is sound for a system on an event record that fits it, by these choices, with at most `n`
-/// instructions, and puts the text of the run. Where a rule is given, turns are given by it, and the text has the line
-/// `waits`; where none is given they are given by `Fixed`.
+/// instructions, and puts the text of the run. Where a rule is given, turns are given by it: with `Fixed` and `Ceiling`
+/// the text has the line `waits`, and with `Cores` a line `core` for each core. Where none is given turns are those of
+/// `Fixed`.
 ///
 /// It takes all its memory before the first put, so `NoMemory` leaves the sink as it was. After `WriteFault` a first
 /// part of the text was put. The program and the events are dropped.
@@ -143,25 +158,26 @@ pub fn run_program<O: Sink>(
     requires sound { Sound arch.now program }
     requires fit { Fit arch.now (events_of events) }
     requires limit { n ≤ 1000000000 }
+    requires rule { IfSome rule IsRule }
     ensures ends { RunEnds O.written O.faults out.old out.new (run_text arch.now program (events_of events) choices.now n rule)
-        (run_stops program (events_of events) choices.now n rule) result }
+        (run_stops arch.now program (events_of events) choices.now n rule) result }
     ensures never_falls { O.faults out.old ≤ O.faults out.new }
 {
-    let arch = arch.arch();
+    let system = arch.arch();
     let Begun {
         rule: turns,
         tasks,
         mut run,
-    } = match begin(alloc, program, events) {
+    } = match begin(alloc, arch, program, events, rule) {
         Ok(begun) => begun,
         Err(_) => return Ran::NoMemory,
     };
     let job = Job {
-        arch,
+        arch: system,
         rule: turns,
         tasks,
         limit: n,
-        counts_waits: rule.is_some(),
+        counts_waits: is_counting(rule),
     };
     carry_out(&job, &mut run, choices, out)
 }

@@ -2,9 +2,10 @@
 ghost use Rattle.std.specs.Prelude.{◌≡◌, ◌<◌, ◌≤◌, true, cond, Some, IfSome, length, slice_get};
 ghost use Rattle.task_machine.specs.State.{ready, holds};
 ghost use Rattle.tower_run.specs.Pieces.{AreFitLines};
-ghost use Rattle.task_code.specs.Policy.{fixed_names};
+ghost use Rattle.tower_run.specs.Scheduler.{names_by};
 ghost use Rattle.tower_run.specs.Going.{IsGoing, Carries, Shows, IsReadyTurn, IsLeftTurn, HasStepped, IsOneTurn, NeverStops, NeverPasses, due_of, task_left, going_with, going, going_on, seeing, looking, entering, idling, unchosen, ending};
 
+use crate::cores::{core_of, count_on};
 use crate::going::{Going, Job, Turn};
 use crate::only::Only;
 use crate::piece::{Piece, put_paged};
@@ -47,10 +48,12 @@ fn advance<P: Policy, O: Sink>(job: &Job, run: &mut Going, policy: &P, k: u32, o
 {
     let waits = is_wait(job, &run.machine, &mut run.busy, k);
     let more = number(waits);
+    let core = core_of(job, &run.machine, &mut run.busy, k);
     match run.machine.go(policy, k) {
         Went::Stepped(mark) => {
             run.count += 1;
             run.waits += more;
+            count_on(&mut run.cores, core);
             show(job, run, mark, out)
         }
         Went::NoneReady => Turn::Passed,
@@ -68,7 +71,7 @@ fn due(ready: bool) -> Turn
 pub fn go<O: Sink>(job: &Job, run: &mut Going, k: u32, out: &mut O) -> Turn
     requires { IsGoing O.written O.faults job.now run.old out.old }
     ensures carries { Carries O.written O.faults (going k) job.now run.old out.old run.new out.new result }
-    ensures stepped { HasStepped (fixed_names job.now.rule (ready run.old.machine) (holds run.old.machine) k) run.old run.new result }
+    ensures stepped { HasStepped (names_by job.now.rule (ready run.old.machine) (holds run.old.machine) k) run.old run.new result }
     ensures ready { IsReadyTurn (ready run.old.machine) result }
     ensures one { IsOneTurn job.now.limit run.old run.new result }
 {
@@ -182,7 +185,8 @@ fn go_unchosen<O: Sink>(job: &Job, run: &mut Going, out: &mut O) -> Turn
     ensures left { IsLeftTurn run.old.machine result }
     ensures one { IsOneTurn job.now.limit run.old run.new result }
 {
-    match go(job, run, 0, out) {
+    let k = job.rule.otherwise(run.count);
+    match go(job, run, k, out) {
         Turn::Passed => event(job, run, out),
         Turn::Went => Turn::Went,
         Turn::Stopped => Turn::Stopped,

@@ -6,7 +6,7 @@ use Rattle.tower_top.specs.Requests.{Request, no_command, answers}
 use Rattle.tower_top.specs.Top.{asked, request_of}
 use Rattle.tower_top.specs.Check.{check}
 use Rattle.tower_top.specs.Compile.{compile}
-use Rattle.tower_top.specs.Run.{run, run_request, with_choices, limit_of, status_of, text_of}
+use Rattle.tower_top.specs.Run.{run, run_request, with_choices, limit_of, rule_of, status_of, text_of}
 use Rattle.tower_top.specs.Words.{Text, Given, given_by}
 use Rattle.tower_top.proofs.Exact.{IsExact, asked_by_exact, where_given_exact}
 use Rattle.tower_top.proofs.ExactInputs.{file_exact, record_exact, choices_exact}
@@ -23,16 +23,17 @@ with_choices_exact (Some name) next h = (choices_exact name, h)
 
 run_exact : (g : Given) → IsExact (run.request g)
 run_exact g =
-    where_given_exact g.record_name (λ name. where_given (limit_of g.steps) (λ limit. run_request g.file name g.choices_name limit))
-    (λ name. where_given_exact (limit_of g.steps) (λ limit. run_request g.file name g.choices_name limit)
-    (λ limit. (
+    where_given_exact g.record_name (λ name. where_given (limit_of g.steps) (λ limit. where_given (rule_of g.policy g.cores) (λ rule. run_request g.file name g.choices_name limit rule)))
+    (λ name. where_given_exact (limit_of g.steps) (λ limit. where_given (rule_of g.policy g.cores) (λ rule. run_request g.file name g.choices_name limit rule))
+    (λ limit. where_given_exact (rule_of g.policy g.cores) (λ rule. run_request g.file name g.choices_name limit rule)
+    (λ rule. (
       file_exact g.file,
       λ arch. (
         record_exact arch name,
         λ events.
-            with_choices_exact g.choices_name (λ cs. answers (status_of arch events cs limit) (text_of arch events cs limit)) (λ cs. tt),
+            with_choices_exact g.choices_name (λ cs. answers (status_of arch events cs limit rule) (text_of arch events cs limit rule)) (λ cs. tt),
       ),
-    )))
+    ))))
 
 asked_exact : (g : Given) → IsExact (asked g)
 asked_exact g =

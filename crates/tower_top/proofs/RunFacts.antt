@@ -5,6 +5,7 @@ use Rattle.tower_syntax.specs.declared.event.Choice.{Choice}
 use Rattle.tower_syntax.specs.Arch.{Arch, Events}
 use Rattle.task_code.specs.Program.{Program}
 use Rattle.task_build.specs.CodeOf.{code_of}
+use Rattle.tower_report.specs.declared.rule.Rule.{Rule}
 use Rattle.tower_report.specs.Bytes.{Bytes}
 use Rattle.tower_report.specs.RunText.{run_text}
 use Rattle.tower_run.specs.declared.run.Ran.{Ran}
@@ -17,30 +18,38 @@ use Rattle.tower_top.specs.Requests.{Input, Request, no_command, reads, answers,
 use Rattle.tower_top.specs.Commands.{asked_of, where_given}
 use Rattle.tower_top.specs.ChoicesInput.{choices_input, ReadsGivenChoices}
 use Rattle.tower_top.specs.Endings.{Ends, IsToWrite, due, prospect}
-use Rattle.tower_top.specs.Run.{run, run_request, run_status, status_of, status_of_ran, text_of, limit_of, with_choices}
+use Rattle.tower_top.specs.Run.{run, run_request, run_status, status_of, status_of_ran, text_of, limit_of, rule_of, with_choices}
 use Rattle.tower_top.specs.Words.{Text, Given, has_only}
 use Rattle.tower_top.proofs.Endings.{chosen, not_chosen, where_some, where_none, stopped_at, went_on, still_gets, still_part}
 
 -- ---- words
 
 module _ (g : Given) {call : Call} {s : Status} where
-  pub asks : (name : Text) (limit : ℕ) → has_only run.options g ≡ true → g.record_name ≡ Some name → limit_of g.steps ≡ Some limit
-      → Ends (run_request g.file name g.choices_name limit) call s → Ends (asked_of run g) call s
-  asks name limit has named limited ends =
+  pub asks : (name : Text) (limit : ℕ) (rule : Option Rule) → has_only run.options g ≡ true → g.record_name ≡ Some name → limit_of g.steps ≡ Some limit → rule_of g.policy g.cores ≡ Some rule
+      → Ends (run_request g.file name g.choices_name limit rule) call s → Ends (asked_of run g) call s
+  asks name limit rule has named limited ruled ends =
       chosen (run.request g) no_command _ has
-      (where_some (λ name. where_given (limit_of g.steps) (λ limit. run_request g.file name g.choices_name limit)) g.record_name name named
-      (where_some (λ limit. run_request g.file name g.choices_name limit) (limit_of g.steps) limit limited ends))
+      (where_some (λ name. where_given (limit_of g.steps) (λ limit. where_given (rule_of g.policy g.cores) (λ rule. run_request g.file name g.choices_name limit rule))) g.record_name name named
+      (where_some (λ limit. where_given (rule_of g.policy g.cores) (λ rule. run_request g.file name g.choices_name limit rule)) (limit_of g.steps) limit limited
+      (where_some (λ rule. run_request g.file name g.choices_name limit rule) (rule_of g.policy g.cores) rule ruled ends)))
 
   pub asks_no_record : has_only run.options g ≡ true → g.record_name ≡ None → Ends no_command call s → Ends (asked_of run g) call s
   asks_no_record has named ends =
       chosen (run.request g) no_command _ has
-      (where_none (λ name. where_given (limit_of g.steps) (λ limit. run_request g.file name g.choices_name limit)) g.record_name named ends)
+      (where_none (λ name. where_given (limit_of g.steps) (λ limit. where_given (rule_of g.policy g.cores) (λ rule. run_request g.file name g.choices_name limit rule))) g.record_name named ends)
 
   pub asks_no_limit : (name : Text) → has_only run.options g ≡ true → g.record_name ≡ Some name → limit_of g.steps ≡ None → Ends no_command call s → Ends (asked_of run g) call s
   asks_no_limit name has named limited ends =
       chosen (run.request g) no_command _ has
-      (where_some (λ name. where_given (limit_of g.steps) (λ limit. run_request g.file name g.choices_name limit)) g.record_name name named
-      (where_none (λ limit. run_request g.file name g.choices_name limit) (limit_of g.steps) limited ends))
+      (where_some (λ name. where_given (limit_of g.steps) (λ limit. where_given (rule_of g.policy g.cores) (λ rule. run_request g.file name g.choices_name limit rule))) g.record_name name named
+      (where_none (λ limit. where_given (rule_of g.policy g.cores) (λ rule. run_request g.file name g.choices_name limit rule)) (limit_of g.steps) limited ends))
+
+  pub asks_no_rule : (name : Text) (limit : ℕ) → has_only run.options g ≡ true → g.record_name ≡ Some name → limit_of g.steps ≡ Some limit → rule_of g.policy g.cores ≡ None → Ends no_command call s → Ends (asked_of run g) call s
+  asks_no_rule name limit has named limited ruled ends =
+      chosen (run.request g) no_command _ has
+      (where_some (λ name. where_given (limit_of g.steps) (λ limit. where_given (rule_of g.policy g.cores) (λ rule. run_request g.file name g.choices_name limit rule))) g.record_name name named
+      (where_some (λ limit. where_given (rule_of g.policy g.cores) (λ rule. run_request g.file name g.choices_name limit rule)) (limit_of g.steps) limit limited
+      (where_none (λ rule. run_request g.file name g.choices_name limit rule) (rule_of g.policy g.cores) ruled ends)))
 
 -- ---- choices
 
@@ -95,11 +104,11 @@ module _ {S : Type 0} (w : S → Option (List ℕ)) (f : S → ℕ) (old new : S
   }
 
   -- of the program of the system
-  pub run_ends : (arch : Arch) (events : Events) (choices : List Choice) (limit : ℕ) (p : Program) (how : Ran) → p ≡ code_of arch → text ≡ text_of arch events choices limit
-      → RunEnds w f old new (run_text arch p events choices limit None) (run_stops p events choices limit None) how
-      → Ends (answers (status_of arch events choices limit) text) call (status_of_ran how)
+  pub run_ends : (arch : Arch) (events : Events) (choices : List Choice) (limit : ℕ) (rule : Option Rule) (p : Program) (how : Ran) → p ≡ code_of arch → text ≡ text_of arch events choices limit rule
+      → RunEnds w f old new (run_text arch p events choices limit rule) (run_stops arch p events choices limit rule) how
+      → Ends (answers (status_of arch events choices limit rule) text) call (status_of_ran how)
   unfolding text_of status_of
-  run_ends arch events choices limit p how is text_is e =
-      let P : Program → Type 0 = λ p. RunEnds w f old new (run_text arch p events choices limit None) (run_stops p events choices limit None) how in
-      let Q : Bytes → Type 0 = λ t. RunEnds w f old new t (run_stops (code_of arch) events choices limit None) how in
-      ran_ends (run_stops (code_of arch) events choices limit None) how (subst Q (sym text_is) (subst P is e))
+  run_ends arch events choices limit rule p how is text_is e =
+      let P : Program → Type 0 = λ p. RunEnds w f old new (run_text arch p events choices limit rule) (run_stops arch p events choices limit rule) how in
+      let Q : Bytes → Type 0 = λ t. RunEnds w f old new t (run_stops arch (code_of arch) events choices limit rule) how in
+      ran_ends (run_stops arch (code_of arch) events choices limit rule) how (subst Q (sym text_is) (subst P is e))

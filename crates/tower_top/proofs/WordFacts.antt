@@ -22,17 +22,20 @@ pub read_in : (f : Found) (id : Text) (got : Option Text) → got ≡ first_valu
 read_in f id got is = is ∙ first_value-rows f id
 
 -- what was gathered from the rows
-pub gathered_is : (rows : List Row) (command file record_name choices_name order_name steps : Option Text)
+pub gathered_is : (rows : List Row) (command file record_name choices_name order_name steps policy cores : Option Text)
     → command ≡ first_of (codes "command") rows → file ≡ first_of (codes "file") rows → record_name ≡ first_of (codes "record") rows
     → choices_name ≡ first_of (codes "choices") rows → order_name ≡ first_of (codes "order") rows → steps ≡ first_of (codes "steps") rows
-    → gathered command file record_name choices_name order_name steps ≡ given_in rows
-gathered_is rows command file record_name choices_name order_name steps e1 e2 e3 e4 e5 e6 = λ i. gathered (e1 i) (e2 i) (e3 i) (e4 i) (e5 i) (e6 i)
+    → policy ≡ first_of (codes "policy") rows → cores ≡ first_of (codes "cores") rows
+    → gathered command file record_name choices_name order_name steps policy cores ≡ given_in rows
+gathered_is rows command file record_name choices_name order_name steps policy cores e1 e2 e3 e4 e5 e6 e7 e8 = λ i. gathered (e1 i) (e2 i) (e3 i) (e4 i) (e5 i) (e6 i) (e7 i) (e8 i)
 
 pub no_command_is : (rows : List Row) → None ≡ first_of (codes "command") rows → None ≡ given_in rows
 no_command_is rows e = λ i. gathered (e i) (first_of (codes "file") rows) (first_of (codes "record") rows) (first_of (codes "choices") rows) (first_of (codes "order") rows) (first_of (codes "steps") rows)
+    (first_of (codes "policy") rows) (first_of (codes "cores") rows)
 
 pub no_file_is : (rows : List Row) (command : Text) → Some command ≡ first_of (codes "command") rows → None ≡ first_of (codes "file") rows → None ≡ given_in rows
 no_file_is rows command e f = λ i. gathered (e i) (f i) (first_of (codes "record") rows) (first_of (codes "choices") rows) (first_of (codes "order") rows) (first_of (codes "steps") rows)
+    (first_of (codes "policy") rows) (first_of (codes "cores") rows)
 
 pub towerc_is_simple : is_simple_and_free towerc ≡ true
 unfolding clap_on_literals

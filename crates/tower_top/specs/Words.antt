@@ -26,7 +26,8 @@ with_rules a (r ∷ rs) = with_rules (with_rule a r) rs
 
 abbrev pub towerc : App
 towerc = with_rules (new_app (codes "towerc")) (positional (codes "command") ∷ positional (codes "file")
-    ∷ option (codes "record") ∷ option (codes "choices") ∷ option (codes "order") ∷ option (codes "steps") ∷ [])
+    ∷ option (codes "record") ∷ option (codes "choices") ∷ option (codes "order") ∷ option (codes "steps")
+    ∷ option (codes "policy") ∷ option (codes "cores") ∷ [])
 
 -- ---- what it finds
 
@@ -38,22 +39,27 @@ pub record Given : Type 0 where
   pub choices_name : Option Text
   pub order_name : Option Text
   pub steps : Option Text
+  pub policy : Option Text
+  pub cores : Option Text
 
-abbrev pub gathered : Option Text → Option Text → Option Text → Option Text → Option Text → Option Text → Option Given
-gathered None file record_name choices_name order_name steps = None
-gathered (Some command) None record_name choices_name order_name steps = None
-gathered (Some command) (Some file) record_name choices_name order_name steps = Some (record {
+abbrev pub gathered : (command file record_name choices_name order_name steps policy cores : Option Text) → Option Given
+gathered None file record_name choices_name order_name steps policy cores = None
+gathered (Some command) None record_name choices_name order_name steps policy cores = None
+gathered (Some command) (Some file) record_name choices_name order_name steps policy cores = Some (record {
   command = command;
   file = file;
   record_name = record_name;
   choices_name = choices_name;
   order_name = order_name;
   steps = steps;
+  policy = policy;
+  cores = cores;
 })
 
 abbrev pub given_in : List Row → Option Given
 given_in rows = gathered (first_of (codes "command") rows) (first_of (codes "file") rows)
     (first_of (codes "record") rows) (first_of (codes "choices") rows) (first_of (codes "order") rows) (first_of (codes "steps") rows)
+    (first_of (codes "policy") rows) (first_of (codes "cores") rows)
 
 abbrev pub unless_refused : {A : Type 0} → Kinds → Option A → Option A
 unless_refused [] found = found
@@ -67,7 +73,7 @@ given_by words = unless_refused (fault_of towerc words) (given_in (matches_of to
 
 -- none of them
 abbrev pub no_options : Options
-no_options = record { record_name = false; choices_name = false; order_name = false; steps = false }
+no_options = record { record_name = false; choices_name = false; order_name = false; steps = false; policy = false; cores = false }
 
 abbrev pub is_allowed : Bool → Option Text → Bool
 is_allowed allowed None = true
@@ -76,7 +82,7 @@ is_allowed allowed (Some value) = allowed
 -- no option is given but these
 abbrev pub has_only : Options → Given → Bool
 has_only options g = is_allowed options.record_name g.record_name && (is_allowed options.choices_name g.choices_name
-    && (is_allowed options.order_name g.order_name && is_allowed options.steps g.steps))
+    && (is_allowed options.order_name g.order_name && (is_allowed options.steps g.steps && (is_allowed options.policy g.policy && is_allowed options.cores g.cores))))
 
 -- ---- as the program has them
 
@@ -88,4 +94,6 @@ given_of g = record {
   choices_name = option_map (λ s. s.now) g.choices_name;
   order_name = option_map (λ s. s.now) g.order_name;
   steps = option_map (λ s. s.now) g.steps;
+  policy = option_map (λ s. s.now) g.policy;
+  cores = option_map (λ s. s.now) g.cores;
 }

@@ -1,6 +1,7 @@
 //! The command `run`.
 ghost use Rattle.std.specs.Prelude.{◌≡◌, ◌≤◌, IfSome, option_map};
 ghost use Rattle.tower_reader.specs.Words.{number_in};
+ghost use Rattle.tower_report.specs.RunText.{IsRule};
 ghost use Rattle.tower_top.specs.Calls.{shelf_change, sink_change};
 ghost use Rattle.tower_top.specs.Commands.{asked_of};
 ghost use Rattle.tower_top.specs.Endings.{Ends};
@@ -16,6 +17,7 @@ use crate::words::{Given, Options};
 use std::alloc::Global;
 use task_build::build;
 use tower_io::{Shelf, Sink};
+use tower_report::Rule;
 use tower_run::{Ran, run_program};
 use tower_syntax::spelling::natural_within;
 
@@ -25,6 +27,8 @@ const OPTIONS: Options = Options {
     choices_name: true,
     order_name: false,
     steps: true,
+    policy: true,
+    cores: true,
 };
 
 /// The number of which a word is the text, up to 1,000,000,000.
@@ -46,6 +50,42 @@ fn limit_of(steps: Option<&str>) -> Option<u64>
     }
 }
 
+/// The rule that `--policy` names.
+fn policy_of(text: &str) -> Option<Rule>
+    ensures rule { result ≡ command.policy_of text.now }
+    ensures fine { IfSome result IsRule }
+{
+    match text {
+        "fixed" => Some(Rule::Fixed),
+        "ceiling" => Some(Rule::Ceiling),
+        _ => None,
+    }
+}
+
+/// The rule of so many cores, as `--cores` says.
+fn cores_of(text: &str) -> Option<Rule>
+    ensures rule { result ≡ command.cores_of text.now }
+    ensures fine { IfSome result IsRule }
+{
+    match natural_within(1, 64, text.as_bytes()) {
+        Some(cores) => Some(Rule::Cores(cores as u32)),
+        None => None,
+    }
+}
+
+/// The rule, if there is one: not both options may be given.
+fn rule_of(policy: Option<&str>, cores: Option<&str>) -> Option<Option<Rule>>
+    ensures rule { result ≡ command.rule_of (option_map (λ s. s.now) policy.entry) (option_map (λ s. s.now) cores.entry) }
+    ensures fine { IfSome result (λ r. IfSome r IsRule) }
+{
+    match (policy, cores) {
+        (None, None) => Some(None),
+        (Some(policy), None) => Some(Some(policy_of(policy)?)),
+        (None, Some(cores)) => Some(Some(cores_of(cores)?)),
+        (Some(_), Some(_)) => None,
+    }
+}
+
 /// The status of a call whose run ended so.
 fn status_of(ran: Ran) -> Status
     ensures { result ≡ command.status_of_ran ran }
@@ -58,7 +98,8 @@ fn status_of(ran: Ran) -> Status
     }
 }
 
-/// Runs the program of FILE over the record, with the choices if there are any, and writes the text of the run.
+/// Runs the program of FILE over the record, with the choices if there are any, by the rule for turns that is given, and
+/// writes the text of the run.
 pub fn run<F: Shelf, O: Sink, E: Sink>(
     alloc: Global,
     given: &Given,
@@ -81,6 +122,10 @@ pub fn run<F: Shelf, O: Sink, E: Sink>(
     };
     let limit = match limit_of(given.steps) {
         Some(limit) => limit,
+        None => return usage(err),
+    };
+    let rule = match rule_of(given.policy, given.cores) {
+        Some(rule) => rule,
         None => return usage(err),
     };
     let file = match read_file(alloc, given.file, shelf, err) {
@@ -107,6 +152,6 @@ pub fn run<F: Shelf, O: Sink, E: Sink>(
         choices.as_slice(),
         limit,
         out,
-        None,
+        rule,
     ))
 }

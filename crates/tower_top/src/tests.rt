@@ -36,6 +36,12 @@ const NO_STEP: &str =
 const ONE_STEP: &str =
     "0 a\n0 a\n0 a\n0 a\n0 a\n0 a\n0 a\n0 a\n0 a\n0 a\n1 s beat\nstate count n 0\ncount 1\nstopped\n";
 
+const ONE_STEP_COUNTED: &str =
+    "0 a\n0 a\n0 a\n0 a\n0 a\n0 a\n0 a\n0 a\n0 a\n0 a\n1 s beat\nstate count n 0\ncount 1\nwaits 0\nstopped\n";
+
+const ONE_STEP_ON_CORES: &str =
+    "0 a\n0 a\n0 a\n0 a\n0 a\n0 a\n0 a\n0 a\n0 a\n0 a\n1 s beat\nstate count n 0\ncount 1\ncore 0 1\ncore 1 0\nstopped\n";
+
 const USAGE: &str = "usage: towerc COMMAND FILE [OPTIONS]\n";
 
 /// A shelf with these files, of which one is not closed, with records and choices, of which some are none.
@@ -121,6 +127,18 @@ const ANSWERS: [(&str, Status, &str, &str); 33] = [
         "",
     ),
     (
+        "towerc run clock --record ticks --steps 1 --policy ceiling",
+        Status::Stopped,
+        ONE_STEP_COUNTED,
+        "",
+    ),
+    (
+        "towerc run clock --record ticks --steps 1 --cores 2",
+        Status::Stopped,
+        ONE_STEP_ON_CORES,
+        "",
+    ),
+    (
         "towerc run open --record absent",
         Status::Refused,
         "",
@@ -172,6 +190,36 @@ const ANSWERS: [(&str, Status, &str, &str); 33] = [
     ),
     (
         "towerc run clock --record ticks --record ticks",
+        Status::Usage,
+        "",
+        USAGE,
+    ),
+    (
+        "towerc run clock --record ticks --policy fair",
+        Status::Usage,
+        "",
+        USAGE,
+    ),
+    (
+        "towerc run clock --record ticks --cores 0",
+        Status::Usage,
+        "",
+        USAGE,
+    ),
+    (
+        "towerc run clock --record ticks --cores 65",
+        Status::Usage,
+        "",
+        USAGE,
+    ),
+    (
+        "towerc run clock --record ticks --policy fixed --cores 2",
+        Status::Usage,
+        "",
+        USAGE,
+    ),
+    (
+        "towerc check clock --policy fixed",
         Status::Usage,
         "",
         USAGE,

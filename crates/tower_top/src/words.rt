@@ -18,6 +18,8 @@ pub struct Given<'a> {
     pub choices_name: Option<&'a str>,
     pub order_name: Option<&'a str>,
     pub steps: Option<&'a str>,
+    pub policy: Option<&'a str>,
+    pub cores: Option<&'a str>,
 }
 
 /// A word at its place, which must be there.
@@ -46,7 +48,9 @@ fn towerc<'a>(alloc: Global) -> Result<Command<'a>, AllocError>
         .arg(option(alloc, "record"))?
         .arg(option(alloc, "choices"))?
         .arg(option(alloc, "order"))?
-        .arg(option(alloc, "steps"))?;
+        .arg(option(alloc, "steps"))?
+        .arg(option(alloc, "policy"))?
+        .arg(option(alloc, "cores"))?;
     Ok(towerc)
 }
 
@@ -61,6 +65,8 @@ fn given_in<'a>(matches: &ArgMatches<'a>) -> Option<Given<'a>>
         choices_name: matches.get_str("choices"),
         order_name: matches.get_str("order"),
         steps: matches.get_str("steps"),
+        policy: matches.get_str("policy"),
+        cores: matches.get_str("cores"),
     })
 }
 
@@ -85,6 +91,8 @@ pub struct Options {
     pub choices_name: bool,
     pub order_name: bool,
     pub steps: bool,
+    pub policy: bool,
+    pub cores: bool,
 }
 
 impl Options {
@@ -94,6 +102,8 @@ impl Options {
         choices_name: false,
         order_name: false,
         steps: false,
+        policy: false,
+        cores: false,
     };
 }
 
@@ -116,5 +126,7 @@ impl Given<'_> {
             && is_allowed(options.choices_name, self.choices_name)
             && is_allowed(options.order_name, self.order_name)
             && is_allowed(options.steps, self.steps)
+            && is_allowed(options.policy, self.policy)
+            && is_allowed(options.cores, self.cores)
     }
 }

@@ -1,8 +1,8 @@
-use Rattle.std.proofs.Common.{◌+◌, refl, ap}
+use Rattle.std.proofs.Common.{◌+◌, ◌∙◌, refl, ap}
 use Rattle.task_machine.specs.State.{State, ready, holds}
 use Rattle.tower_run.proofs.Ready.{stepping, none_any, not_stepping}
 use Rattle.tower_run.proofs.Steps.{lines_fit}
-use Rattle.tower_run.proofs.Carried.{advanced, not_advanced, has_stepped, ready_turn, one_turn}
+use Rattle.tower_run.proofs.Carried.{job_rule, few_on_cores, advanced, not_advanced, has_stepped, ready_turn, one_turn}
 use Rattle.tower_run.proofs.turns.advance.Goals as goal
 
 pub show-requires : goal.show-requires
@@ -13,13 +13,17 @@ show-requires g c =
     let st = stepping r.machine named c.in-Stepped.mark c.go.new.self c.in-Stepped.ensures.step in
     lines_fit g.O.Sink.written g.O.Sink.faults it.course it.planned c.args.job.now r it.first c.args.out.now it.told named c.in-Stepped.mark c.go.new.self st c.requires.less c.args.k it.job c.go.new.self refl
 
+pub count_on-requires : goal.count_on-requires
+count_on-requires g c = few_on_cores g.O.Sink.written g.O.Sink.faults c.args.job.now c.args.run.now c.args.out.now c.core_of-core.result c.requires.going c.requires.less c.core_of-core.ensures.below
+
 pub returns-in-Stepped-clause-carries : goal.returns-in-Stepped-clause-carries
 returns-in-Stepped-clause-carries g c =
     let r = c.args.run.now in
     let named = g.P.Policy.names c.args.policy.now (ready r.machine) (holds r.machine) c.args.k in
     let st = stepping r.machine named c.in-Stepped.mark c.go.new.self c.in-Stepped.ensures.step in
-    advanced g.O.Sink.written g.O.Sink.faults c.args.job.now r c.args.out.now _ c.show.new.run c.show.new.out c.args.k named c.in-Stepped.mark c.go.new.self c.is_wait-waits.result c.show.result st c.requires.less
-    refl refl (ap (λ n. r.waits + n) c.number-more.ensures.value) c.is_wait-waits.ensures.waits c.is_wait-waits.ensures.busy refl c.show.ensures
+    advanced g.O.Sink.written g.O.Sink.faults c.args.job.now r c.args.out.now _ c.show.new.run c.show.new.out c.args.k named c.in-Stepped.mark c.go.new.self c.is_wait-waits.result c.core_of-core.result c.show.result
+    (job_rule g.O.Sink.written g.O.Sink.faults c.args.job.now r c.args.out.now c.requires.going) c.core_of-core.ensures.core c.count_on.ensures st c.requires.less
+    refl refl (ap (λ n. r.waits + n) c.number-more.ensures.value) c.is_wait-waits.ensures.waits (c.core_of-core.ensures.busy ∙ c.is_wait-waits.ensures.busy) refl c.show.ensures
 
 pub returns-in-Stepped-clause-ready : goal.returns-in-Stepped-clause-ready
 returns-in-Stepped-clause-ready g c =
@@ -51,4 +55,4 @@ returns-in-NoneReady-clause-carries g c =
     let named = g.P.Policy.names c.args.policy.now (ready r.machine) (holds r.machine) c.args.k in
     let no = not_stepping r.machine named c.go.new.self c.in-NoneReady.ensures.step in
     not_advanced g.O.Sink.written g.O.Sink.faults c.args.job.now r c.args.out.now _ c.args.k named no.0
-    (ap (λ (m : State). record r { machine = m; busy = c.is_wait-waits.new.busy }) no.1) c.is_wait-waits.ensures.busy
+    (ap (λ (m : State). record r { machine = m; busy = c.core_of-core.new.busy }) no.1) (c.core_of-core.ensures.busy ∙ c.is_wait-waits.ensures.busy)

@@ -3,7 +3,7 @@ use Rattle.task_machine.specs.State.{ready}
 use Rattle.tower_run.specs.declared.going.Turn.{Turn}
 use Rattle.tower_run.specs.declared.going.Turn.TheVariants as turn
 use Rattle.tower_run.specs.Going.{going, NeverPasses}
-use Rattle.tower_run.proofs.Carried.{job_rule, after_went, see_exits, see_passes, see_is_over, see_continues, left_is, stopped_not_went, stopped_not_passed, failed_not_went, failed_not_passed}
+use Rattle.tower_run.proofs.Carried.{after_went, see_exits, see_passes, see_is_over, see_continues, left_is, stopped_not_went, stopped_not_passed, failed_not_went, failed_not_passed}
 use Rattle.tower_run.proofs.turns.see.Goals as goal
 
 not_passed : (t : Turn) → NeverPasses t → t ≡ turn.Passed → ⊥
@@ -30,10 +30,10 @@ look-requires-clause-ready g c =
 pub returns-in-Some : goal.returns-in-Some
 returns-in-Some g c =
     let s = c.in-Went.ensures.stepped in
-    see_continues g.O.Sink.written g.O.Sink.faults c.args.k s.0 c.args.job.now c.args.run.now c.go.new.run c.args.out.now c.go.new.out (job_rule g.O.Sink.written g.O.Sink.faults c.args.job.now c.args.run.now c.args.out.now c.requires) s.1 c.in-Went.ensures.carries s.2
+    see_continues g.O.Sink.written g.O.Sink.faults c.args.k s.0 c.args.job.now c.args.run.now c.go.new.run c.args.out.now c.go.new.out s.1 c.in-Went.ensures.carries s.2
     c.in-Some.x (sym c.in-Some.ensures) c.look.new.run c.look.new.out c.look.result (not_passed c.look.result c.look.ensures.never_passes) c.look.ensures.carries
 
 pub returns-in-None : goal.returns-in-None
 returns-in-None g c =
     let s = c.in-Went.ensures.stepped in
-    see_is_over g.O.Sink.written g.O.Sink.faults c.args.k s.0 c.args.job.now c.args.run.now c.go.new.run c.args.out.now c.go.new.out (job_rule g.O.Sink.written g.O.Sink.faults c.args.job.now c.args.run.now c.args.out.now c.requires) s.1 c.in-Went.ensures.carries s.2 (sym c.in-None.ensures)
+    see_is_over g.O.Sink.written g.O.Sink.faults c.args.k s.0 c.args.job.now c.args.run.now c.go.new.run c.args.out.now c.go.new.out s.1 c.in-Went.ensures.carries s.2 (sym c.in-None.ensures)

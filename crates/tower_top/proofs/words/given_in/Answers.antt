@@ -20,6 +20,7 @@ returns-in_err-get_str-2 c =
 pub returns : goal.returns
 returns c =
     let f = found_of c.args.matches.now in
-    gathered_is (rows_of f) _ _ _ _ _ _ (read_in f (codes "command") _ c.in_ok-get_str.ensures) (read_in f (codes "file") _ c.in_ok-get_str-2.ensures)
+    gathered_is (rows_of f) _ _ _ _ _ _ _ _ (read_in f (codes "command") _ c.in_ok-get_str.ensures) (read_in f (codes "file") _ c.in_ok-get_str-2.ensures)
     (read_in f (codes "record") _ c.get_str-3.ensures) (read_in f (codes "choices") _ c.get_str-4.ensures)
     (read_in f (codes "order") _ c.get_str-5.ensures) (read_in f (codes "steps") _ c.get_str-6.ensures)
+    (read_in f (codes "policy") _ c.get_str-7.ensures) (read_in f (codes "cores") _ c.get_str-8.ensures)
