@@ -12,7 +12,7 @@ use Rattle.task_code.specs.Machine.{Machine, Lock}
 use Rattle.tower_report.specs.Bytes.{line}
 use Rattle.tower_report.specs.ValueText.{words_text, texts_of_words, shapes_in}
 use Rattle.tower_report.specs.MarkText.{output_name, output_shape, out_line}
-use Rattle.tower_report.specs.EndText.{monitor_name, state_line, state_lines, monitor_text, shown_by, monitors_text, lost_line, lost_text, losses_text, count_line, waits_text, last_line, end_text}
+use Rattle.tower_report.specs.EndText.{monitor_name, state_line, state_lines, monitor_text, shown_by, monitors_text, lost_line, lost_text, losses_text, count_line, waits_text, core_line, cores_text, last_line, Tally, tally_text, end_text}
 use Rattle.event_record.specs.Lines.{Bytes}
 use Rattle.declared_names.specs.Laws.{HasNames}
 use Rattle.run_order.proofs.Above.{above, are_above, both, and_true, word_above}
@@ -118,10 +118,19 @@ module _ (arch : Arch) (names : HasNames arch) where
   then_said : (a b : Bytes) → Says arch a [] → Says arch b [] → Says arch (a ++ b) []
   then_said a b = says_then arch a b []
 
-  pub end_said : (m : Machine) (n : ℕ) (waits : Option ℕ) (stopped : Bool) → Says arch (end_text arch m n waits stopped) []
-  end_said m n waits stopped =
-      then_said (monitors_text arch m.locks ++ losses_text arch m.lost ++ count_line n ++ waits_text waits) (last_line stopped)
-      (then_said (monitors_text arch m.locks ++ losses_text arch m.lost ++ count_line n) (waits_text waits)
-      (then_said (monitors_text arch m.locks ++ losses_text arch m.lost) (count_line n)
-      (then_said (monitors_text arch m.locks) (losses_text arch m.lost) (monitors_said m.locks) (losses_said m.lost))
-      (count_said n)) (waits_said waits)) (last_said stopped)
+  cores_said : (counts : List ℕ) → Says arch (cores_text counts) []
+  cores_said counts =
+      says_each arch (λ i. core_line i (slice_index counts i))
+      (λ i. says_passed arch (codes "core") (decimal i ∷ decimal (slice_index counts i) ∷ []) refl refl (two_above (decimal i) (decimal (slice_index counts i)) (decimal_above i) (decimal_above (slice_index counts i))))
+      (numbers_before (length counts) [])
+
+  tally_said : (t : Tally) → Says arch (tally_text t) []
+  tally_said t =
+      then_said (count_line t.count ++ waits_text t.waits) (cores_text t.cores)
+      (then_said (count_line t.count) (waits_text t.waits) (count_said t.count) (waits_said t.waits)) (cores_said t.cores)
+
+  pub end_said : (m : Machine) (tally : Tally) (stopped : Bool) → Says arch (end_text arch m tally stopped) []
+  end_said m tally stopped =
+      then_said (monitors_text arch m.locks ++ losses_text arch m.lost ++ tally_text tally) (last_line stopped)
+      (then_said (monitors_text arch m.locks ++ losses_text arch m.lost) (tally_text tally)
+      (then_said (monitors_text arch m.locks) (losses_text arch m.lost) (monitors_said m.locks) (losses_said m.lost)) (tally_said tally)) (last_said stopped)

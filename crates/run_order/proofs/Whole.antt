@@ -5,10 +5,10 @@ use Rattle.tower_syntax.specs.declared.event.Mark.{Mark}
 use Rattle.tower_syntax.specs.Arch.{Arch, Events}
 use Rattle.task_code.specs.Program.{Program}
 use Rattle.task_code.specs.Run.{first_run}
-use Rattle.task_code.specs.Plan.{instructions, plan}
+use Rattle.task_code.specs.Plan.{plan}
 use Rattle.task_code.proofs.Planned.{IsPlanned, planned}
 use Rattle.tower_report.specs.declared.rule.Rule.{Rule}
-use Rattle.tower_report.specs.RunText.{policy_of, steps_text, waits_by, run_text}
+use Rattle.tower_report.specs.RunText.{policy_of, steps_text, tally_of, run_text}
 use Rattle.tower_report.specs.EndText.{end_text}
 use Rattle.event_record.specs.Lines.{Bytes}
 use Rattle.event_record.specs.Order.{instruction_limit, order_format, SpellsOrder}
@@ -23,14 +23,14 @@ use Rattle.run_order.proofs.Steps.{steps_said}
 
 run_said : (arch : Arch) (p : Program) (events : Events) (choices : List Choice) (limit : ℕ) (given : Option Rule) → HasNames arch → HasFewTasks arch p → limit ≤ instruction_limit → Says arch (run_text arch p events choices limit given) (run_marks arch p events choices limit given)
 run_said arch p events choices limit given names few small =
-    let policy = policy_of given p in
+    let policy = policy_of given arch p in
     let s = plan policy p events choices limit in
     let is : IsPlanned policy p events limit s = planned policy p events choices limit in
     let counts = is.counts in
     let said = steps_said arch names p events few s.steps s.run 0 (first_run p events) (omega (arith, counts, small)) is.reaches in
     let steps = steps_text arch p events 0 (Some (first_run p events)) s.steps in
-    let end = end_text arch s.run.machine (instructions s.steps) (waits_by given p events s.steps) s.stopped in
-    says_then arch steps end s.run.marks (subst (Says arch steps) (sym said.are) said.says) (end_said arch names s.run.machine (instructions s.steps) (waits_by given p events s.steps) s.stopped)
+    let end = end_text arch s.run.machine (tally_of given arch p events s.steps) s.stopped in
+    says_then arch steps end s.run.marks (subst (Says arch steps) (sym said.are) said.says) (end_said arch names s.run.machine (tally_of given arch p events s.steps) s.stopped)
 
 order_of : (arch : Arch) (text : Bytes) (marks : List Mark) → SpellsOrder arch text marks → IsOrderOf arch text marks
 order_of arch text marks s =

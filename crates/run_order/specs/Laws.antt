@@ -15,7 +15,7 @@ use Rattle.event_record.specs.Order.{instruction_limit, order_format, SpellsOrde
 
 -- the marks of the run with these choices and at most so many instructions
 abbrev pub run_marks : Arch → Program → Events → List Choice → ℕ → Option Rule → List Mark
-run_marks arch p events choices limit given = (plan (policy_of given p) p events choices limit).run.marks
+run_marks arch p events choices limit given = (plan (policy_of given arch p) p events choices limit).run.marks
 
 -- the text spells these marks and no others, and has no fault
 pub record IsOrderOf (arch : Arch) (text : Bytes) (marks : List Mark) : Type 0 where
