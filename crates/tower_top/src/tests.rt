@@ -74,7 +74,7 @@ fn words(alloc: Global, line: &str) -> Result<Vec<String>, AllocError> {
 }
 
 /// Each line of words with its status and what it writes on `out` and on `err`.
-const ANSWERS: [(&str, Status, &str, &str); 33] = [
+const ANSWERS: [(&str, Status, &str, &str); 40] = [
     ("towerc check clock", Status::Done, CLOCK_CHECK, ""),
     ("towerc compile clock", Status::Done, CLOCK_LISTING, ""),
     (
