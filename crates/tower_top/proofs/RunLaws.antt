@@ -1,10 +1,11 @@
 -- Runs with enough instructions come to their end.
-use Rattle.std.proofs.Common.{◌≡◌, ◌≤◌, ℕ, zero, suc, List, [], inl, inr, Option, Some, None, Bool, true, false, refl, sym, ap, absurd, ◌∙◌, subst, codes, slice_get}
+use Rattle.std.proofs.Common.{◌≡◌, ◌≤◌, ℕ, zero, suc, List, [], inl, inr, Option, Some, None, Bool, true, false, refl, sym, ap, ◌∙◌, subst, codes, slice_get}
 use Rattle.tower_syntax.specs.declared.event.Choice.{Choice}
 use Rattle.tower_syntax.specs.Arch.{Arch, Events}
 use Rattle.task_code.specs.Program.{Program}
 use Rattle.task_code.specs.Policy.{fixed, fixed_names, priorities}
-use Rattle.task_code.specs.Ceiling.{ceilings}
+use Rattle.task_code.specs.Ceiling.{ceiling, ceilings}
+use Rattle.task_code.specs.Cores.{cores}
 use Rattle.task_machine.specs.Policy.{IsLawful}
 use Rattle.task_machine.specs.Lawful.{fixed_is_lawful}
 use Rattle.task_policies.specs.Lawful.{ceiling_is_lawful, cores_is_lawful}
@@ -46,12 +47,18 @@ fixed_names_ready p ready holds k x e = subst (IsLawful ready) e (fixed_is_lawfu
 no_core : (x : ℕ) → None ≡ Some x → ⊥
 no_core x e = cc
 
+ceiling_names_ready : (arch : Arch) (p : Program) → NamesReady (ceiling arch p)
+ceiling_names_ready arch p ready holds k x e = subst (IsLawful ready) e (ceiling_is_lawful (priorities p) (ceilings arch) ready holds k)
+
+cores_name_ready : (n : ℕ) (p : Program) → NamesReady (cores n p)
+cores_name_ready zero p ready holds k x e = absurd (no_core x e)
+cores_name_ready (suc n) p ready holds k x e = subst (IsLawful ready) e (cores_is_lawful (priorities p) n ready holds k)
+
 names_ready : (rule : Option Rule) (arch : Arch) (p : Program) → NamesReady (policy_of rule arch p)
 names_ready None arch p = fixed_names_ready p
 names_ready (Some Fixed) arch p = fixed_names_ready p
-names_ready (Some Ceiling) arch p ready holds k x e = subst (IsLawful ready) e (ceiling_is_lawful (priorities p) (ceilings arch) ready holds k)
-names_ready (Some (Cores zero)) arch p ready holds k x e = absurd (no_core x e)
-names_ready (Some (Cores (suc n))) arch p ready holds k x e = subst (IsLawful ready) e (cores_is_lawful (priorities p) n ready holds k)
+names_ready (Some Ceiling) arch p = ceiling_names_ready arch p
+names_ready (Some (Cores n)) arch p = cores_name_ready n p
 
 never_stops : (arch : Arch) (bs text : List ℕ) (events : Events) (choices : List Choice) (limit : ℕ) (rule : Option Rule) → IsAccepted bs arch → SpellsRecord arch text events → costs arch events ≤ limit
     → run_stops arch (code_of arch) events choices limit rule ≡ false
