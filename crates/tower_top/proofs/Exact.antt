@@ -10,7 +10,7 @@ use Rattle.tower_top.specs.Calls.{Held, IsHeld, ShelfTold, SinkTold, Change, Cal
 use Rattle.tower_top.specs.Requests.{Input, Request, no_command, reads, answers, HasRead, HasFault, IsDue, IsDueNow, TellsAll, IsAnswer, HasAnswer}
 use Rattle.tower_top.specs.Endings.{Prospect, Answers, FailsToRead, FailsToWrite, LacksMemory, EndsAs, prospect, Ends}
 use Rattle.tower_top.specs.Commands.{Command, choose, where_given, asked_of, asked_by}
-use Rattle.tower_top.specs.Words.{Given, has_only}
+use Rattle.tower_words.specs.Words.{Given, has_only}
 use Rattle.tower_top.specs.Laws.{HasNoFault, Comes}
 
 -- a text has at most one value, or else at most one fault

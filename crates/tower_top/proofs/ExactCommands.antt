@@ -7,7 +7,7 @@ use Rattle.tower_top.specs.Top.{asked, request_of}
 use Rattle.tower_top.specs.Check.{check}
 use Rattle.tower_top.specs.Compile.{compile}
 use Rattle.tower_top.specs.Run.{run, run_request, with_choices, limit_of, rule_of, status_of, text_of}
-use Rattle.tower_top.specs.Words.{Text, Given, given_by}
+use Rattle.tower_words.specs.Words.{Text, Given, given_by}
 use Rattle.tower_top.proofs.Exact.{IsExact, asked_by_exact, where_given_exact}
 use Rattle.tower_top.proofs.ExactInputs.{file_exact, record_exact, choices_exact}
 

@@ -7,5 +7,4 @@ pub mod FileFacts
 pub mod InputFacts
 pub mod RunFacts
 pub mod RunLaws
-pub mod WordFacts
 pub mod Priorities

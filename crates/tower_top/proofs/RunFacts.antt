@@ -19,7 +19,7 @@ use Rattle.tower_top.specs.Commands.{asked_of, where_given}
 use Rattle.tower_top.specs.ChoicesInput.{choices_input, ReadsGivenChoices}
 use Rattle.tower_top.specs.Endings.{Ends, IsToWrite, due, prospect}
 use Rattle.tower_top.specs.Run.{run, run_request, run_status, status_of, status_of_ran, text_of, limit_of, rule_of, with_choices}
-use Rattle.tower_top.specs.Words.{Text, Given, has_only}
+use Rattle.tower_words.specs.Words.{Text, Given, has_only}
 use Rattle.tower_top.proofs.Endings.{chosen, not_chosen, where_some, where_none, stopped_at, went_on, still_gets, still_part}
 
 -- ---- words

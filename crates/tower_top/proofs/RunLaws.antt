@@ -35,7 +35,7 @@ use Rattle.tower_top.specs.Requests.{Request, no_command, reads, answers, HasRea
 use Rattle.tower_top.specs.Run.{run, run_request, run_status, status_of, text_of, limit_of, rule_of, with_choices}
 use Rattle.tower_top.specs.RunLaws.{HasChoices, AsksForRun}
 use Rattle.tower_top.specs.Top.{asked, request_of}
-use Rattle.tower_top.specs.Words.{Text, Given, given_by, has_only}
+use Rattle.tower_words.specs.Words.{Text, Given, given_by, has_only}
 use Rattle.tower_top.proofs.Exact.{answer_is_due, comes}
 use Rattle.tower_top.proofs.ExactCommands.{request_exact}
 

@@ -4,7 +4,7 @@ use Rattle.tower_report.specs.CheckText.{check_text}
 use Rattle.tower_top.specs.declared.status.Status.TheVariants.{Done}
 use Rattle.tower_top.specs.Requests.{reads, answers}
 use Rattle.tower_top.specs.Inputs.{file_input}
-use Rattle.tower_top.specs.Words.{no_options}
+use Rattle.tower_words.specs.Words.{no_options}
 use Rattle.tower_top.specs.Commands.{Command}
 
 abbrev pub check : Command

@@ -1,8 +1,8 @@
 -- The commands: each with the options that it may have and what it asks for.
 use Rattle.std.specs.Prelude.{ℕ, List, Option, Some, None, Bool, true, false, bytes_eq}
-use Rattle.tower_top.specs.declared.words.Options.{Options}
+use Rattle.tower_words.specs.declared.words.Options.{Options}
 use Rattle.tower_top.specs.Requests.{Request, no_command}
-use Rattle.tower_top.specs.Words.{Given, has_only}
+use Rattle.tower_words.specs.Words.{Given, has_only}
 
 pub record Command : Type 1 where
   pub name : List ℕ

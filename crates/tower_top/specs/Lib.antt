@@ -14,4 +14,3 @@ pub mod Run
 pub mod RunLaws
 pub mod Status
 pub mod Top
-pub mod Words

@@ -18,7 +18,7 @@ use Rattle.tower_top.specs.Requests.{Request, reads, answers}
 use Rattle.tower_top.specs.Inputs.{file_input}
 use Rattle.tower_top.specs.RecordInput.{record_input}
 use Rattle.tower_top.specs.ChoicesInput.{choices_input}
-use Rattle.tower_top.specs.Words.{Text, no_options}
+use Rattle.tower_words.specs.Words.{Text, no_options}
 use Rattle.tower_top.specs.Commands.{Command, where_given}
 
 -- the limit of instructions: the value of `--steps`, or 10,000,000

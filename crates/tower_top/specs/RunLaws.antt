@@ -15,7 +15,7 @@ use Rattle.tower_top.specs.RecordInput.{record_input}
 use Rattle.tower_top.specs.Requests.{HasRead, TellsAll, HasAnswer}
 use Rattle.tower_top.specs.Run.{run, limit_of, rule_of, text_of}
 use Rattle.tower_top.specs.Top.{request_of}
-use Rattle.tower_top.specs.Words.{Text, Given, given_by, has_only}
+use Rattle.tower_words.specs.Words.{Text, Given, given_by, has_only}
 
 -- the choices of the text with this name; there are none where no name is given
 abbrev pub HasChoices : Held → Option Text → List Choice → Type 0

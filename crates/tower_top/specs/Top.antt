@@ -1,7 +1,7 @@
 -- The table of commands, and what words ask for.
 use Rattle.std.specs.Prelude.{ℕ, List}
 use Rattle.tower_top.specs.Requests.{Request, no_command}
-use Rattle.tower_top.specs.Words.{Given, given_by}
+use Rattle.tower_words.specs.Words.{Given, given_by}
 use Rattle.tower_top.specs.Commands.{asked_by, where_given}
 use Rattle.tower_top.specs.Check.{check}
 use Rattle.tower_top.specs.Compile.{compile}

@@ -3,12 +3,12 @@ ghost use Rattle.tower_top.specs.Calls.{shelf_change, sink_change};
 ghost use Rattle.tower_top.specs.Check as command;
 ghost use Rattle.tower_top.specs.Commands.{asked_of};
 ghost use Rattle.tower_top.specs.Endings.{Ends};
-ghost use Rattle.tower_top.specs.Words.{given_of};
+ghost use Rattle.tower_words.specs.Words.{given_of};
 
 use crate::file::read_file;
 use crate::status::{Status, after};
 use crate::usage::usage;
-use crate::words::{Given, Options};
+use tower_words::{Given, Options};
 use std::alloc::Global;
 use tower_io::{Shelf, Sink};
 use tower_report::put_check;

@@ -4,13 +4,13 @@ ghost use Rattle.tower_top.specs.Calls.{shelf_change, sink_change};
 ghost use Rattle.tower_top.specs.Commands.{asked_of};
 ghost use Rattle.tower_top.specs.Compile as command;
 ghost use Rattle.tower_top.specs.Endings.{Ends};
-ghost use Rattle.tower_top.specs.Words.{given_of};
+ghost use Rattle.tower_words.specs.Words.{given_of};
 
 use crate::file::read_file;
 use crate::status::{Status, after};
 use crate::usage::usage;
 use crate::whole::put_whole;
-use crate::words::{Given, Options};
+use tower_words::{Given, Options};
 use arch_checks::Checked;
 use sqlite_items::Items;
 use std::alloc::Global;

@@ -13,7 +13,6 @@ mod status;
 mod top;
 mod usage;
 mod whole;
-mod words;
 
 pub use status::Status;
 pub use top::tower;

@@ -6,14 +6,14 @@ ghost use Rattle.tower_top.specs.Calls.{shelf_change, sink_change};
 ghost use Rattle.tower_top.specs.Commands.{asked_of};
 ghost use Rattle.tower_top.specs.Endings.{Ends};
 ghost use Rattle.tower_top.specs.Run as command;
-ghost use Rattle.tower_top.specs.Words.{given_of};
+ghost use Rattle.tower_words.specs.Words.{given_of};
 
 use crate::choices::read_given_choices;
 use crate::events::read_events;
 use crate::file::read_file;
 use crate::status::Status;
 use crate::usage::usage;
-use crate::words::{Given, Options};
+use tower_words::{Given, Options};
 use std::alloc::Global;
 use task_build::build;
 use tower_io::{Shelf, Sink};
@@ -25,10 +25,10 @@ use tower_syntax::spelling::natural_within;
 const OPTIONS: Options = Options {
     record_name: true,
     choices_name: true,
-    order_name: false,
     steps: true,
     policy: true,
     cores: true,
+    ..Options::NONE
 };
 
 /// The number of which a word is the text, up to 1,000,000,000.

@@ -3,14 +3,14 @@ ghost use Rattle.std.specs.Prelude.{map, string_bytes};
 ghost use Rattle.tower_top.specs.Calls.{shelf_change, sink_change};
 ghost use Rattle.tower_top.specs.Endings.{Ends};
 ghost use Rattle.tower_top.specs.Top.{asked, request_of};
-ghost use Rattle.tower_top.specs.Words.{given_of};
+ghost use Rattle.tower_words.specs.Words.{given_of};
 
 use crate::check::check;
 use crate::compile::compile;
 use crate::run::run;
 use crate::status::Status;
 use crate::usage::usage;
-use crate::words::{Given, read_words};
+use tower_words::{Given, read_words};
 use std::alloc::Global;
 use tower_io::{Shelf, Sink};
 

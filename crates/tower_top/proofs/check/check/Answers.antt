@@ -2,7 +2,7 @@ use Rattle.std.proofs.Common.{◌≡◌, Bool, true, false, refl, sym, ◌∙◌
 use Rattle.tower_top.specs.Calls.{still, shelf_change, sink_change}
 use Rattle.tower_top.specs.Check as command
 use Rattle.tower_top.specs.Requests.{no_command}
-use Rattle.tower_top.specs.Words.{given_of, has_only, no_options}
+use Rattle.tower_words.specs.Words.{given_of, has_only, no_options}
 use Rattle.tower_top.proofs.Endings.{answered, chosen, not_chosen, stopped_at, went_on}
 use Rattle.tower_top.proofs.check.check.Goals as goal
 

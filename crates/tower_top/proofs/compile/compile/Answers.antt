@@ -3,7 +3,7 @@ use Rattle.tower_report.specs.Puts.{Puts}
 use Rattle.tower_top.specs.Calls.{still, shelf_change, sink_change}
 use Rattle.tower_top.specs.Compile as command
 use Rattle.tower_top.specs.Requests.{no_command}
-use Rattle.tower_top.specs.Words.{given_of, has_only, no_options}
+use Rattle.tower_words.specs.Words.{given_of, has_only, no_options}
 use Rattle.tower_top.proofs.Endings.{answered, chosen, not_chosen, stopped_at, went_on}
 use Rattle.tower_top.proofs.compile.compile.Goals as goal
 

@@ -7,7 +7,7 @@ use Rattle.tower_run.specs.Ending.{run_stops, RunEnds}
 use Rattle.tower_top.specs.Calls.{SinkTold, still, shelf_change, sink_change}
 use Rattle.tower_top.specs.Requests.{Request, no_command, answers}
 use Rattle.tower_top.specs.Run as command
-use Rattle.tower_top.specs.Words.{given_of, has_only}
+use Rattle.tower_words.specs.Words.{given_of, has_only}
 use Rattle.tower_top.proofs.Endings.{not_chosen, stopped_at, went_on, lacks_memory}
 use Rattle.tower_top.proofs.RunFacts.{asks, asks_no_record, asks_no_limit, asks_no_rule, chose, chose_same, choose_stops, run_ends}
 use Rattle.tower_top.proofs.run.run.Goals as goal

@@ -4,7 +4,7 @@ use Rattle.tower_top.specs.Check.{check}
 use Rattle.tower_top.specs.Compile.{compile}
 use Rattle.tower_top.specs.Run.{run}
 use Rattle.tower_top.specs.Requests.{Request, no_command}
-use Rattle.tower_top.specs.Words.{Given, given_of}
+use Rattle.tower_words.specs.Words.{Given, given_of}
 use Rattle.tower_top.proofs.Endings.{chosen, not_chosen}
 use Rattle.tower_top.proofs.top.carry_out.Goals as goal
 

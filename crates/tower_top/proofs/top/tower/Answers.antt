@@ -1,6 +1,6 @@
 use Rattle.std.proofs.Common.{refl, sym, map, string_bytes}
 use Rattle.tower_top.specs.Top.{asked, request_of}
-use Rattle.tower_top.specs.Words.{given_by, given_of}
+use Rattle.tower_words.specs.Words.{given_by, given_of}
 use Rattle.tower_top.proofs.Endings.{where_some, where_none, lacks_memory}
 use Rattle.tower_top.proofs.top.tower.Goals as goal
 

@@ -3,7 +3,7 @@ ghost use Rattle.std.specs.Prelude.{◌≡◌, IfOk, false, map, option_map, str
 ghost use Rattle.clap.specs.Matches.{found_of};
 ghost use Rattle.clap.specs.Simple.{app_of};
 ghost use Rattle.clap.specs.Walk.{rows_of, rule_of};
-ghost use Rattle.tower_top.specs.Words.{given_by, given_in, given_of, has_only, is_allowed, option, positional, towerc};
+ghost use Rattle.tower_words.specs.Words.{given_by, given_in, given_of, has_only, is_allowed, option, positional, towerc};
 
 use clap::error::ErrorKind;
 use clap::{Arg, ArgMatches, Command};
@@ -20,6 +20,10 @@ pub struct Given<'a> {
     pub steps: Option<&'a str>,
     pub policy: Option<&'a str>,
     pub cores: Option<&'a str>,
+    pub listing_name: Option<&'a str>,
+    pub notes_name: Option<&'a str>,
+    pub rate: Option<&'a str>,
+    pub gap: Option<&'a str>,
 }
 
 /// A word at its place, which must be there.
@@ -50,7 +54,11 @@ fn towerc<'a>(alloc: Global) -> Result<Command<'a>, AllocError>
         .arg(option(alloc, "order"))?
         .arg(option(alloc, "steps"))?
         .arg(option(alloc, "policy"))?
-        .arg(option(alloc, "cores"))?;
+        .arg(option(alloc, "cores"))?
+        .arg(option(alloc, "listing"))?
+        .arg(option(alloc, "notes"))?
+        .arg(option(alloc, "rate"))?
+        .arg(option(alloc, "gap"))?;
     Ok(towerc)
 }
 
@@ -67,6 +75,10 @@ fn given_in<'a>(matches: &ArgMatches<'a>) -> Option<Given<'a>>
         steps: matches.get_str("steps"),
         policy: matches.get_str("policy"),
         cores: matches.get_str("cores"),
+        listing_name: matches.get_str("listing"),
+        notes_name: matches.get_str("notes"),
+        rate: matches.get_str("rate"),
+        gap: matches.get_str("gap"),
     })
 }
 
@@ -93,6 +105,10 @@ pub struct Options {
     pub steps: bool,
     pub policy: bool,
     pub cores: bool,
+    pub listing_name: bool,
+    pub notes_name: bool,
+    pub rate: bool,
+    pub gap: bool,
 }
 
 impl Options {
@@ -104,6 +120,10 @@ impl Options {
         steps: false,
         policy: false,
         cores: false,
+        listing_name: false,
+        notes_name: false,
+        rate: false,
+        gap: false,
     };
 }
 
@@ -128,5 +148,9 @@ impl Given<'_> {
             && is_allowed(options.steps, self.steps)
             && is_allowed(options.policy, self.policy)
             && is_allowed(options.cores, self.cores)
+            && is_allowed(options.listing_name, self.listing_name)
+            && is_allowed(options.notes_name, self.notes_name)
+            && is_allowed(options.rate, self.rate)
+            && is_allowed(options.gap, self.gap)
     }
 }

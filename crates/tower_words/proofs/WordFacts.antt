@@ -15,27 +15,32 @@ use Rattle.clap.specs.declared.error.kind.ErrorKind.TheVariants.{OutOfMemory}
 use Rattle.clap.specs.declared.parser.matches.ArgMatches.{ArgMatches}
 use Rattle.clap.proofs.WalkLemmas.{first_value-rows}
 use Rattle.clap.proofs.OnLiterals.{clap_on_literals}
-use Rattle.tower_top.specs.Words.{Text, Given, gathered, given_in, given_by, unless_refused, towerc}
+use Rattle.tower_words.specs.Words.{Text, Given, gathered, given_in, given_by, unless_refused, towerc}
 
 -- what a getter reads is in the rows
 pub read_in : (f : Found) (id : Text) (got : Option Text) → got ≡ first_value f id → got ≡ first_of id (rows_of f)
 read_in f id got is = is ∙ first_value-rows f id
 
 -- what was gathered from the rows
-pub gathered_is : (rows : List Row) (command file record_name choices_name order_name steps policy cores : Option Text)
+pub gathered_is : (rows : List Row) (command file record_name choices_name order_name steps policy cores listing_name notes_name rate gap : Option Text)
     → command ≡ first_of (codes "command") rows → file ≡ first_of (codes "file") rows → record_name ≡ first_of (codes "record") rows
     → choices_name ≡ first_of (codes "choices") rows → order_name ≡ first_of (codes "order") rows → steps ≡ first_of (codes "steps") rows
-    → policy ≡ first_of (codes "policy") rows → cores ≡ first_of (codes "cores") rows
-    → gathered command file record_name choices_name order_name steps policy cores ≡ given_in rows
-gathered_is rows command file record_name choices_name order_name steps policy cores e1 e2 e3 e4 e5 e6 e7 e8 = λ i. gathered (e1 i) (e2 i) (e3 i) (e4 i) (e5 i) (e6 i) (e7 i) (e8 i)
+    → policy ≡ first_of (codes "policy") rows → cores ≡ first_of (codes "cores") rows → listing_name ≡ first_of (codes "listing") rows
+    → notes_name ≡ first_of (codes "notes") rows → rate ≡ first_of (codes "rate") rows → gap ≡ first_of (codes "gap") rows
+    → gathered command file record_name choices_name order_name steps policy cores listing_name notes_name rate gap ≡ given_in rows
+gathered_is rows command file record_name choices_name order_name steps policy cores listing_name notes_name rate gap e1 e2 e3 e4 e5 e6 e7 e8 e9 e10 e11 e12 =
+    λ i. gathered
+    (e1 i) (e2 i) (e3 i) (e4 i) (e5 i) (e6 i) (e7 i) (e8 i) (e9 i) (e10 i) (e11 i) (e12 i)
 
 pub no_command_is : (rows : List Row) → None ≡ first_of (codes "command") rows → None ≡ given_in rows
-no_command_is rows e = λ i. gathered (e i) (first_of (codes "file") rows) (first_of (codes "record") rows) (first_of (codes "choices") rows) (first_of (codes "order") rows) (first_of (codes "steps") rows)
-    (first_of (codes "policy") rows) (first_of (codes "cores") rows)
+no_command_is rows e = λ i. gathered (e i) (first_of (codes "file") rows) (first_of (codes "record") rows) (first_of (codes "choices") rows)
+    (first_of (codes "order") rows) (first_of (codes "steps") rows) (first_of (codes "policy") rows) (first_of (codes "cores") rows)
+    (first_of (codes "listing") rows) (first_of (codes "notes") rows) (first_of (codes "rate") rows) (first_of (codes "gap") rows)
 
 pub no_file_is : (rows : List Row) (command : Text) → Some command ≡ first_of (codes "command") rows → None ≡ first_of (codes "file") rows → None ≡ given_in rows
-no_file_is rows command e f = λ i. gathered (e i) (f i) (first_of (codes "record") rows) (first_of (codes "choices") rows) (first_of (codes "order") rows) (first_of (codes "steps") rows)
-    (first_of (codes "policy") rows) (first_of (codes "cores") rows)
+no_file_is rows command e f = λ i. gathered (e i) (f i) (first_of (codes "record") rows) (first_of (codes "choices") rows) (first_of (codes "order") rows)
+    (first_of (codes "steps") rows) (first_of (codes "policy") rows) (first_of (codes "cores") rows) (first_of (codes "listing") rows)
+    (first_of (codes "notes") rows) (first_of (codes "rate") rows) (first_of (codes "gap") rows)
 
 pub towerc_is_simple : is_simple_and_free towerc ≡ true
 unfolding clap_on_literals

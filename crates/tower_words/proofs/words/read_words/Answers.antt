@@ -1,7 +1,7 @@
 use Rattle.std.proofs.Common.{◌≡◌, ◌∙◌, sym, map, string_bytes}
 use Rattle.clap.specs.Simple.{app_of}
-use Rattle.tower_top.proofs.WordFacts.{refused_is, matched_is}
-use Rattle.tower_top.proofs.words.read_words.Goals as goal
+use Rattle.tower_words.proofs.WordFacts.{refused_is, matched_is}
+use Rattle.tower_words.proofs.words.read_words.Goals as goal
 
 pub returns-in_default : goal.returns-in_default
 returns-in_default c =
