@@ -8,10 +8,10 @@ ghost use Rattle.tower_words.specs.Words.{given_of};
 use crate::file::read_file;
 use crate::status::{Status, after};
 use crate::usage::usage;
-use tower_words::{Given, Options};
 use std::alloc::Global;
 use tower_io::{Shelf, Sink};
 use tower_report::put_check;
+use tower_words::{Given, Options};
 
 /// Tells what FILE has and what it weighs.
 pub fn check<F: Shelf, O: Sink, E: Sink>(

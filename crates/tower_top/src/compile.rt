@@ -10,7 +10,6 @@ use crate::file::read_file;
 use crate::status::{Status, after};
 use crate::usage::usage;
 use crate::whole::put_whole;
-use tower_words::{Given, Options};
 use arch_checks::Checked;
 use sqlite_items::Items;
 use std::alloc::Global;
@@ -18,6 +17,7 @@ use task_build::build;
 use task_listing::write;
 use tower_io::{Shelf, Sink};
 use tower_types::NoMemory;
+use tower_words::{Given, Options};
 
 /// The listing of the program of a file.
 fn listing_of(alloc: Global, file: &Checked) -> Result<Items<u8>, NoMemory>

@@ -13,13 +13,13 @@ use crate::events::read_events;
 use crate::file::read_file;
 use crate::status::Status;
 use crate::usage::usage;
-use tower_words::{Given, Options};
 use std::alloc::Global;
 use task_build::build;
 use tower_io::{Shelf, Sink};
 use tower_report::Rule;
 use tower_run::{Ran, run_program};
 use tower_syntax::spelling::natural_within;
+use tower_words::{Given, Options};
 
 /// The options that it may have.
 const OPTIONS: Options = Options {

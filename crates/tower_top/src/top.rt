@@ -10,9 +10,9 @@ use crate::compile::compile;
 use crate::run::run;
 use crate::status::Status;
 use crate::usage::usage;
-use tower_words::{Given, read_words};
 use std::alloc::Global;
 use tower_io::{Shelf, Sink};
+use tower_words::{Given, read_words};
 
 /// Carries out the command that was given.
 fn carry_out<F: Shelf, O: Sink, E: Sink>(
