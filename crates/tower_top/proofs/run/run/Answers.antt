@@ -19,28 +19,28 @@ returns-then-not-has_only g c =
 
 pub returns-in-None : goal.returns-in-None
 returns-in-None g c =
-    let has : has_only command.run.options (given_of c.args.given.now) ≡ true = cc in
+    let has : has_only command.run.options (given_of c.args.given.now) ≡ true = sym c.has_only.ensures ∙ c.if-not-has_only.false in
     asks_no_record (given_of c.args.given.now) has (ap (option_map (λ s. s.now)) c.in-None.is) (c.usage-in-None.ensures _ _)
 
 pub returns-in-None-limit_of : goal.returns-in-None-limit_of
 returns-in-None-limit_of g c =
-    let has : has_only command.run.options (given_of c.args.given.now) ≡ true = cc in
+    let has : has_only command.run.options (given_of c.args.given.now) ≡ true = sym c.has_only.ensures ∙ c.if-not-has_only.false in
     asks_no_limit (given_of c.args.given.now) c.in-Some.name.now has (ap (option_map (λ s. s.now)) c.in-Some.is) (sym c.in-None-limit_of.ensures.value) (c.usage-in-None-limit_of.ensures _ _)
 
 pub returns-in-None-rule_of : goal.returns-in-None-rule_of
 returns-in-None-rule_of g c =
-    let has : has_only command.run.options (given_of c.args.given.now) ≡ true = cc in
+    let has : has_only command.run.options (given_of c.args.given.now) ≡ true = sym c.has_only.ensures ∙ c.if-not-has_only.false in
     asks_no_rule (given_of c.args.given.now) c.in-Some.name.now c.in-Some-limit_of.limit has (ap (option_map (λ s. s.now)) c.in-Some.is) (sym c.in-Some-limit_of.ensures.value) (sym c.in-None-rule_of.ensures.rule) (c.usage-in-None-rule_of.ensures _ _)
 
 pub returns-in-Err : goal.returns-in-Err
 returns-in-Err g c =
-    let has : has_only command.run.options (given_of c.args.given.now) ≡ true = cc in
+    let has : has_only command.run.options (given_of c.args.given.now) ≡ true = sym c.has_only.ensures ∙ c.if-not-has_only.false in
     asks (given_of c.args.given.now) c.in-Some.name.now c.in-Some-limit_of.limit c.in-Some-rule_of.rule has (ap (option_map (λ s. s.now)) c.in-Some.is) (sym c.in-Some-limit_of.ensures.value) (sym c.in-Some-rule_of.ensures.rule)
     (stopped_at (record { written = g.O.Sink.written c.args.out.now; faults = g.O.Sink.faults c.args.out.now }) c.in-Err.ensures)
 
 pub returns-in-Err-read_events : goal.returns-in-Err-read_events
 returns-in-Err-read_events g c =
-    let has : has_only command.run.options (given_of c.args.given.now) ≡ true = cc in
+    let has : has_only command.run.options (given_of c.args.given.now) ≡ true = sym c.has_only.ensures ∙ c.if-not-has_only.false in
     let out : SinkTold = record { written = g.O.Sink.written c.args.out.now; faults = g.O.Sink.faults c.args.out.now } in
     let s1 = shelf_change g.F.Shelf.held g.F.Shelf.blamed g.F.Shelf.faults c.args.shelf.now c.read_file.new.shelf in
     let e1 = sink_change g.E.Sink.written g.E.Sink.faults c.args.err.now c.read_file.new.err in
@@ -53,7 +53,7 @@ returns-in-Err-read_events g c =
 
 pub returns-in-Err-read_given_choices : goal.returns-in-Err-read_given_choices
 returns-in-Err-read_given_choices g c =
-    let has : has_only command.run.options (given_of c.args.given.now) ≡ true = cc in
+    let has : has_only command.run.options (given_of c.args.given.now) ≡ true = sym c.has_only.ensures ∙ c.if-not-has_only.false in
     let out : SinkTold = record { written = g.O.Sink.written c.args.out.now; faults = g.O.Sink.faults c.args.out.now } in
     let s1 = shelf_change g.F.Shelf.held g.F.Shelf.blamed g.F.Shelf.faults c.args.shelf.now c.read_file.new.shelf in
     let e1 = sink_change g.E.Sink.written g.E.Sink.faults c.args.err.now c.read_file.new.err in
@@ -77,7 +77,7 @@ returns-in-Err-build g c =
 
 pub returns : goal.returns
 returns g c =
-    let has : has_only command.run.options (given_of c.args.given.now) ≡ true = cc in
+    let has : has_only command.run.options (given_of c.args.given.now) ≡ true = sym c.has_only.ensures ∙ c.if-not-has_only.false in
     let w = g.O.Sink.written in
     let f = g.O.Sink.faults in
     let out = sink_change w f c.args.out.now c.run_program.new.out in
