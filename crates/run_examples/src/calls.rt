@@ -2,7 +2,7 @@
 
 use crate::shown::Shown;
 
-pub const CALLS: [(&str, Shown); 38] = [
+pub const CALLS: [(&str, Shown); 46] = [
     // Marks, outputs and the states at the end.
     ("towerc run clock.tower --record clock.record", Shown::Marks),
     ("towerc run none.tower --record none.record", Shown::Whole),
@@ -47,6 +47,39 @@ pub const CALLS: [(&str, Shown); 38] = [
     (
         "towerc run flight.tower --record flight.record --steps 16722",
         Shown::Number,
+    ),
+    // Rules for turns.
+    (
+        "towerc run inv.tower --record inv.record --choices inv.choices --policy ceiling",
+        Shown::Marks,
+    ),
+    (
+        "towerc run inv.tower --record inv.record --choices inv.choices --policy fixed",
+        Shown::Marks,
+    ),
+    (
+        "towerc run share.tower --record cores.record --choices cores.choices --cores 2",
+        Shown::Marks,
+    ),
+    (
+        "towerc run share.tower --record cores.record --choices cores.choices",
+        Shown::Marks,
+    ),
+    (
+        "towerc run inv.tower --record inv.record --policy fair",
+        Shown::Whole,
+    ),
+    (
+        "towerc run inv.tower --record inv.record --cores 0",
+        Shown::Whole,
+    ),
+    (
+        "towerc run inv.tower --record inv.record --cores 65",
+        Shown::Whole,
+    ),
+    (
+        "towerc run inv.tower --record inv.record --cores 2 --policy fixed",
+        Shown::Whole,
     ),
     // Limits.
     (

@@ -8,7 +8,8 @@ use std::alloc::{AllocError, Global};
 pub enum Shown {
     /// As it is.
     Whole,
-    /// Without the counts of instructions: those in front of the marks, and that of `count`.
+    /// Without the counts of instructions: those in front of the marks, and those of `count` and of each core. Of the
+    /// count of waits only whether it is 0.
     Marks,
     /// With the number of the marks in place of them, and without the count.
     Number,
@@ -19,7 +20,17 @@ pub enum Shown {
 enum Line<'a> {
     Mark(&'a str),
     Count(&'a str),
+    Core(&'a str),
+    Waits,
     Other,
+}
+
+/// The core of the words behind `core`: the first of them.
+fn core_of(words: &str) -> &str {
+    match words.split_once(' ') {
+        Some((core, _)) => core,
+        None => words,
+    }
 }
 
 /// A mark stands behind a number.
@@ -29,6 +40,10 @@ fn line_of(line: &str) -> Line<'_> {
     };
     if first == "count" {
         Line::Count(rest)
+    } else if first == "core" {
+        Line::Core(core_of(rest))
+    } else if first == "waits" && rest != "0" {
+        Line::Waits
     } else if first.parse::<u64>().is_ok() {
         Line::Mark(rest)
     } else {
@@ -36,16 +51,23 @@ fn line_of(line: &str) -> Line<'_> {
     }
 }
 
+/// A line without its count of instructions.
+fn uncounted(alloc: Global, line: &str) -> Result<String, AllocError> {
+    match line_of(line) {
+        Line::Mark(mark) => String::from_str(alloc, mark),
+        Line::Count(_) => String::from_str(alloc, "count *"),
+        Line::Core(core) => format!(in alloc; "core {core} *"),
+        Line::Waits => String::from_str(alloc, "waits, at least 1"),
+        Line::Other => String::from_str(alloc, line),
+    }
+}
+
 /// The text with its marks, but with no count of instructions.
 fn with_marks(alloc: Global, text: &str) -> Result<String, AllocError> {
     let mut shown = String::new(alloc);
     for line in text.lines() {
-        let line = match line_of(line) {
-            Line::Mark(mark) => mark,
-            Line::Count(_) => "count *",
-            Line::Other => line,
-        };
-        shown.push_str(line)?;
+        let line = uncounted(alloc, line)?;
+        shown.push_str(line.as_str())?;
         shown.push('\n')?;
     }
     Ok(shown)
@@ -66,12 +88,11 @@ fn marks_in(text: &str) -> u64 {
 fn without_marks(alloc: Global, text: &str) -> Result<String, AllocError> {
     let mut shown = String::new(alloc);
     for line in text.lines() {
-        let line = match line_of(line) {
-            Line::Mark(_) => continue,
-            Line::Count(_) => "count *",
-            Line::Other => line,
-        };
-        shown.push_str(line)?;
+        if let Line::Mark(_) = line_of(line) {
+            continue;
+        }
+        let line = uncounted(alloc, line)?;
+        shown.push_str(line.as_str())?;
         shown.push('\n')?;
     }
     Ok(shown)

@@ -13,6 +13,7 @@ ceilings = record {
   less_first = refl;
   not_lowered = refl;
   nobody = refl;
+  of_flight = refl;
 }
 
 pub cores : WorkedCores

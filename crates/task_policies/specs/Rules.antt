@@ -1,6 +1,7 @@
 -- The rules, as contracts see them, and the tests by which they find a task.
-use Rattle.std.specs.Prelude.{ℕ, suc, nat_lt, ◌==◌, max, List, [], ◌∷◌, map, filter, Bool, ◌&&◌, ◌||◌, not, Option, None, Some, slice_index}
+use Rattle.std.specs.Prelude.{ℕ, suc, nat_lt, ◌==◌, max, List, [], ◌∷◌, length, map, filter, Bool, ◌&&◌, ◌||◌, not, Option, None, Some, slice_index}
 use Rattle.task_code.specs.Ceiling.{active_priority, is_holder}
+use Rattle.task_code.specs.Cores.{on_cores, core_at}
 
 pub record CeilingRule : Type 0 where
   pub priorities : List ℕ
@@ -13,6 +14,13 @@ pub record CoresRule : Type 0 where
 -- never none
 abbrev pub core_count : CoresRule → ℕ
 core_count r = max 1 r.cores
+
+-- how many tasks are on the cores, and on which core the one is that is named for k
+abbrev pub busy_cores : CoresRule → List Bool → ℕ
+busy_cores r ready = length (on_cores r.priorities (core_count r) ready)
+
+abbrev pub core_of : CoresRule → List Bool → ℕ → ℕ
+core_of r ready k = core_at r.priorities (core_count r) ready k
 
 abbrev pub active_in : CeilingRule → List (Option ℕ) → ℕ → ℕ
 active_in r holds x = active_priority r.priorities r.ceilings holds x

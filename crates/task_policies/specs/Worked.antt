@@ -1,6 +1,7 @@
 -- Whom the rules name, worked out.
 use Rattle.std.specs.Prelude.{◌≡◌, ℕ, List, [], ◌∷◌, Bool, true, false, Option, Some, None}
-use Rattle.task_code.specs.Ceiling.{ceiling_names}
+use Rattle.tower_syntax.specs.Flight.{flight}
+use Rattle.task_code.specs.Ceiling.{ceiling_names, ceilings}
 use Rattle.task_code.specs.Cores.{cores_names, core_at}
 
 -- four tasks, and two monitors with these ceilings
@@ -30,6 +31,8 @@ pub record WorkedCeilings : Type 0 where
   -- a ceiling below the holder's priority does not lower it, and it goes before its like
   pub not_lowered : by_ceiling everyone (None ∷ None ∷ Some 1 ∷ None ∷ []) 0 ≡ Some 2
   pub nobody : by_ceiling (false ∷ false ∷ false ∷ false ∷ []) held_by_none 3 ≡ None
+  -- gyro is touched by boot, fuse by fast, ctl by cmd, life by slow, and by none that is more urgent
+  pub of_flight : ceilings flight ≡ 250 ∷ 200 ∷ 160 ∷ 100 ∷ []
 
 pub record WorkedCores : Type 0 where
   -- the order is 1, 2, 3, 0

@@ -1,8 +1,8 @@
 //! The rule of several cores.
 ghost use Rattle.std.specs.Prelude.{◌≡◌, ◌==◌, ℕ, ◌<◌, ◌≤◌, ◌^◌, ◌%◌, true, length, slice_get, slice_index, IfSome, None};
 ghost use Rattle.task_code.specs.Policy.{places_from};
-ghost use Rattle.task_code.specs.Cores.{by_urgency, on_cores, core_at, cores_names};
-ghost use Rattle.task_policies.specs.Rules.{CoresRule, core_count, level_below, greater_of};
+ghost use Rattle.task_code.specs.Cores.{by_urgency, cores_names};
+ghost use Rattle.task_policies.specs.Rules.{CoresRule, core_count, busy_cores, core_of, level_below, greater_of};
 ghost use Rattle.task_policies.specs.Lawful.{some_cores_are_lawful};
 
 use crate::among::{Test, at_position, count, number_of};
@@ -119,15 +119,15 @@ impl Cores {
 
     /// How many tasks are on the cores.
     fn busy(&self, ready: &[bool]) -> u32
-        ensures { result ≡ length (on_cores self.now.priorities (core_count self.now) ready.now) }
+        ensures { result ≡ busy_cores self.now ready.now }
     {
         count(ready, &Every).min(self.cores as usize) as u32
     }
 
     /// The core of the task that is named for `k`, where a task is ready: `k` modulo the number of tasks on the cores.
     pub fn core(&self, ready: &[bool], k: u32) -> u32
-        ensures core { 0 < length (on_cores self.now.priorities (core_count self.now) ready.now) → result ≡ core_at self.now.priorities (core_count self.now) ready.now k }
-        ensures none { length (on_cores self.now.priorities (core_count self.now) ready.now) ≡ 0 → result ≡ 0 }
+        ensures core { 0 < busy_cores self.now ready.now → result ≡ core_of self.now ready.now k }
+        ensures none { busy_cores self.now ready.now ≡ 0 → result ≡ 0 }
         ensures below { result < core_count self.now }
     {
         let busy = self.busy(ready);

@@ -2,7 +2,7 @@
 ghost use Rattle.task_policies.specs.Sums.{CoresAddUp};
 ghost use Rattle.task_policies.specs.Worked.{WorkedCeilings, WorkedCores};
 
-/// Whom the ceiling rule names of four tasks.
+/// Whom the ceiling rule names of four tasks, and the ceilings of one whole system.
 pub fn worked_ceilings()
     ensures { WorkedCeilings }
 {}
