@@ -1,0 +1,4 @@
+pub mod View
+pub mod WellFormed
+pub mod Codes
+pub mod Parts
