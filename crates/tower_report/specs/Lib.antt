@@ -12,3 +12,4 @@ pub mod CheckText
 pub mod FaultText
 pub mod WorkedFaults
 pub mod RefusalText
+pub mod GeneratedText

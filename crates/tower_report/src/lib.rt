@@ -4,6 +4,7 @@
 pub mod checks;
 pub mod ends;
 pub mod faults;
+pub mod generated;
 pub mod laws;
 pub mod marks;
 mod pieces;
@@ -16,6 +17,7 @@ pub mod words;
 pub use checks::put_check;
 pub use ends::{put_core, put_count, put_end, put_held, put_lost, put_states, put_waits};
 pub use faults::put_fault;
+pub use generated::{Generated, put_generated};
 pub use marks::{put_mark, put_out};
 pub use refusals::{put_bad, put_unread, put_usage};
 pub use replays::{put_message, put_misfit, put_pending, put_state_values, put_waiting};

@@ -1,0 +1,4 @@
+pub mod Bare
+pub mod Capped
+pub mod Fit
+pub mod Right
