@@ -1,5 +1,5 @@
 -- The words of a program's lines are read as what they spell.
-use Rattle.std.proofs.Common.{◌≡◌, ◌≢◌, ◌∙◌, ℕ, zero, suc, ◌+◌, ◌<◌, ◌≤◌, ◌^◌, ◌-◌, ℤ, pos, negsuc, neg_ℤ, List, [], ◌∷◌, length, map, Bool, true, false, not, cond, Option, Some, None, Ok, Err, refl, sym, ap, subst, arith, eqb, decimal, get_or}
+use Rattle.std.proofs.Common.{◌≡◌, ℕ, zero, suc, ◌+◌, ◌<◌, ◌≤◌, ◌^◌, ◌-◌, ℤ, pos, negsuc, neg_ℤ, List, [], ◌∷◌, length, map, Bool, true, false, not, cond, Option, Some, Ok, Err, refl, ap, subst, arith, eqb, decimal, get_or}
 use Rattle.std.specs.Prelude.{codes, bytes_eq, ◌&&◌, ◌||◌, ◌≤ℤ◌, ◌<ℤ◌}
 use Rattle.std.specs.Option.{option_map}
 use Rattle.std.specs.Fmt.{signed_decimal}
@@ -160,11 +160,11 @@ type_back (scalars.Ix n) h =
     let small : n < 2 ^ 64 = omega (arith, h.1) in
     λ i. cond (not (decimal_unblank n small i)) (or_err fault.Number (option_map scalars.Ix (number_of 1 65536 n (decimal n) small (h.0, h.1) refl i))) (Err fault.Line)
 
-unary_back : (o : UnOp) → unary_named (unary_word o) ≡ Some o
+pub unary_back : (o : UnOp) → unary_named (unary_word o) ≡ Some o
 unary_back un.Not = refl
 unary_back un.Neg = refl
 
-binary_back : (o : BinOp) → binary_named (binary_word o) ≡ Some o
+pub binary_back : (o : BinOp) → binary_named (binary_word o) ≡ Some o
 binary_back op.Add = refl
 binary_back op.Sub = refl
 binary_back op.Mul = refl

@@ -1,6 +1,6 @@
 -- The kinds of items: monitors, outputs, buffers, instructions, tasks.
-use Rattle.std.proofs.Common.{◌≡◌, ◌≢◌, ◌∙◌, ℕ, zero, suc, ◌+◌, ◌*◌, ◌<◌, ◌≤◌, ◌^◌, ℤ, pos, negsuc, neg_ℤ, List, [], ◌∷◌, ◌++◌, length, map, Bool, true, false, not, Option, Some, None, Ok, Err, refl, sym, ap, subst, arith, eqb, replicate, slice_get, decimal, append_assoc, length-append}
-use Rattle.std.specs.Prelude.{codes, ◌&&◌, ◌||◌, ◌==◌, ◌≤ℤ◌, ◌<ℤ◌}
+use Rattle.std.proofs.Common.{◌≡◌, ◌∙◌, ℕ, zero, suc, ◌+◌, ◌*◌, ◌<◌, ◌≤◌, ◌^◌, ℤ, pos, negsuc, neg_ℤ, List, [], ◌∷◌, ◌++◌, length, map, Bool, true, false, not, Option, Some, None, Ok, Err, refl, sym, ap, subst, arith, eqb, replicate, slice_get, decimal, append_assoc, length-append}
+use Rattle.std.specs.Prelude.{codes, ◌≤ℤ◌, ◌<ℤ◌}
 use Rattle.std.specs.Fmt.{signed_decimal}
 use Rattle.std.proofs.lemmas.Int.{ints}
 use Rattle.std.specs.List.{join_with_byte}
@@ -18,10 +18,9 @@ use Rattle.task_code.specs.declared.program.Instr.TheVariants as instr
 use Rattle.task_code.specs.Rules.{most_words, most_instructions, IsCount, IsScalar, IsBuffer}
 use Rattle.task_listing.specs.declared.kind.Kind.{Kind}
 use Rattle.task_listing.specs.declared.kind.Kind.TheVariants as kind
-use Rattle.task_listing.specs.declared.rules.Head.{Head}
-use Rattle.task_listing.specs.Lines.{Bytes, words}
+use Rattle.task_listing.specs.Lines.{Bytes}
 use Rattle.task_listing.specs.Numbers.{has_blank}
-use Rattle.task_listing.specs.Spelling.{Word, text, scalar_text, with_numbers, words_of}
+use Rattle.task_listing.specs.Spelling.{text, scalar_text, with_numbers, words_of}
 use Rattle.task_listing.specs.Listing.{task_line}
 use Rattle.task_listing.specs.Context.{counted_to, numbers, behind}
 use Rattle.task_listing.specs.Draft.{ended_task, begun_task, numbered, with_instr}

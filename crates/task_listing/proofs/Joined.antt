@@ -1,7 +1,7 @@
 -- Words and lines, put together and split again.
-use Rattle.std.proofs.Common.{◌≡◌, ◌∙◌, ℕ, ◌+◌, List, [], ◌∷◌, ◌++◌, Bool, true, false, refl, sym, ap, eqb, append_assoc}
+use Rattle.std.proofs.Common.{◌≡◌, ◌∙◌, ℕ, List, [], ◌∷◌, ◌++◌, Bool, true, false, refl, sym, ap, eqb, append_assoc}
 use Rattle.std.specs.Prelude.{◌||◌}
-use Rattle.std.specs.List.{All, slice_split, join_with_byte}
+use Rattle.std.specs.List.{All, join_with_byte}
 use Rattle.std.proofs.lemmas.Bool.{eqb-true}
 use Rattle.std.proofs.lemmas.List.Elements.{All-nil, All-cons}
 use Rattle.std.proofs.lemmas.List.Splits.{slice_split_none, slice_split_at}

@@ -14,3 +14,7 @@ pub mod Programs
 pub mod Ruled
 pub mod Readings
 pub mod Worked
+pub mod WorkedTable
+pub mod Formed
+pub mod Lengths
+pub mod Wrong

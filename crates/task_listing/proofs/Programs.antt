@@ -1,34 +1,22 @@
 -- Programs, and the lines of their listings.
-use Rattle.std.proofs.Common.{◌≡◌, ◌≢◌, ◌∙◌, ℕ, zero, suc, ◌+◌, ◌*◌, ◌<◌, ◌≤◌, ◌^◌, List, [], ◌∷◌, ◌++◌, length, map, Bool, true, false, cond, Option, Some, None, Ok, Err, refl, sym, ap, subst, arith, append_assoc, append-nil}
-use Rattle.std.specs.Prelude.{codes, sum, ◌||◌, ◌&&◌, nat_lt, nat_le, slice_index}
-use Rattle.std.specs.List.{join_with_byte, All, sum_by}
-use Rattle.std.proofs.lemmas.Bool.{ltb-true, ltb-false, leb-true, le-leb}
-use Rattle.std.proofs.lemmas.List.Sums.{sum_by-cons}
-use Rattle.std.proofs.lemmas.List.Elements.{All-nil, All-cons, All-head, All-tail}
-use Rattle.task_code.specs.declared.program.Buffer.{Buffer}
+use Rattle.std.proofs.Common.{◌≡◌, ◌∙◌, ℕ, ◌+◌, ◌≤◌, List, [], ◌∷◌, ◌++◌, length, Ok, refl, sym, ap, append_assoc, append-nil}
+use Rattle.std.specs.Prelude.{codes}
+use Rattle.std.specs.List.{join_with_byte}
 use Rattle.task_code.specs.declared.program.Task.{Task}
-use Rattle.task_code.specs.declared.program.Instr.{Instr}
-use Rattle.task_code.specs.declared.program.Instr.TheVariants as instr
 use Rattle.task_code.specs.Program.{Program}
-use Rattle.task_code.specs.Rules.{most_words, most_instructions, IsInstr, IsBuffer, IsTask, KeepsRules, task_words, all_words, all_instructions}
-use Rattle.tower_types.specs.Arithmetic.{is_number}
-use Rattle.task_listing.specs.declared.fault.ListKind.{ListKind}
-use Rattle.task_listing.specs.declared.fault.ListKind.TheVariants as fault
+use Rattle.task_code.specs.Rules.{most_words}
 use Rattle.task_listing.specs.declared.kind.Kind.{Kind}
 use Rattle.task_listing.specs.declared.kind.Kind.TheVariants as kind
-use Rattle.task_listing.specs.declared.rules.Head.{Head}
-use Rattle.task_listing.specs.Lines.{Bytes, byte_limit, whole_lines, behind_lines, words, texts}
+use Rattle.task_listing.specs.Lines.{Bytes, whole_lines, behind_lines, texts}
 use Rattle.task_listing.specs.Spelling.{with_numbers, written}
 use Rattle.task_listing.specs.Listing.{counted, number_text, buffer_text, instr_text, task_text, task_line, listing}
-use Rattle.task_listing.specs.Context.{counted_to}
 use Rattle.task_listing.specs.Draft.{no_draft, ended_task}
-use Rattle.task_listing.specs.Judging.{State, begun, walk, walk_on, judge, next_kind, is_range, keeps, limited, ended, closed, finished, verdict, Verdict}
-use Rattle.task_listing.specs.InstrRows.{IsOperands, IsSmall}
+use Rattle.task_listing.specs.Judging.{State, begun, walk}
 use Rattle.task_listing.proofs.Spelled.{title_is, ending_is}
 use Rattle.task_listing.proofs.Joined.{AllNoLf, all_no_lf, whole_ended, behind_ended, lines_back, texts_both}
 use Rattle.task_listing.proofs.Joined as joined
 use Rattle.task_listing.proofs.Runs.{Known, at, IsWhole, First, first_of, line_on, flat, puts, AllFit, counted_lines, counted_on, Counted, counted_of, counted_behind, counted_clean}
-use Rattle.task_listing.proofs.Items.{number_lines, IsFew, put_monitor, put_output, monitor_block, output_block, monitors_header, outputs_header, tasks_header, buffer_lines, put_buffer, FitsBuffer, instr_lines, put_instr, FitsInstr, begin_task, with_buffers, put_task, task_lines, FitsTask, task_block}
+use Rattle.task_listing.proofs.Items.{number_lines, IsFew, put_monitor, put_output, monitor_block, output_block, monitors_header, outputs_header, tasks_header, buffer_lines, instr_lines, put_task, task_lines, FitsTask, task_block}
 
 -- ---- all lines
 

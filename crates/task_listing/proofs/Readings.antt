@@ -1,26 +1,29 @@
 -- A text with no fault is the listing of the program that was read, and the listing of a program has no fault.
-use Rattle.std.proofs.Common.{◌≡◌, ◌⊎◌, ◌∙◌, inl, inr, ℕ, ◌+◌, ◌<◌, ◌≤◌, List, [], ◌∷◌, ◌++◌, length, Bool, true, false, cond, Option, Some, None, Ok, Err, refl, sym, ap, subst, arith, append-nil}
+use Rattle.std.proofs.Common.{◌≡◌, ◌⊎◌, ◌∙◌, inl, inr, ℕ, ◌+◌, ◌<◌, ◌≤◌, List, [], ◌∷◌, ◌++◌, length, Bool, true, false, cond, Option, Some, None, Result, Ok, Err, refl, sym, ap, subst, arith, append-nil}
 use Rattle.std.specs.Prelude.{nat_lt, ◌||◌}
 use Rattle.std.specs.List.{All}
+use Rattle.std.specs.Result.{IfOk, IfErr}
 use Rattle.std.proofs.lemmas.Bool.{ltb-false, le-ltb}
 use Rattle.std.proofs.lemmas.List.Elements.{All-nil, All-cons}
 use Rattle.task_code.specs.declared.program.Task.{Task}
 use Rattle.task_code.specs.Program.{Program}
-use Rattle.task_code.specs.Rules.{most_words, most_instructions, KeepsRules}
+use Rattle.task_code.specs.Rules.{most_words, most_instructions}
 use Rattle.task_listing.specs.declared.fault.ListKind.{ListKind}
 use Rattle.task_listing.specs.declared.fault.ListKind.TheVariants as fault
+use Rattle.task_listing.specs.declared.fault.ListFault.{ListFault}
+use Rattle.task_listing.specs.declared.fault.ListFault.TheVariants as list_fault
 use Rattle.task_listing.specs.declared.kind.Kind.{Kind}
 use Rattle.task_listing.specs.Lines.{Bytes, byte_limit, whole_lines, behind_lines, words, texts}
 use Rattle.task_listing.specs.Listing.{listing}
 use Rattle.task_listing.specs.Faults.{IsFirst, IsFaultless, Precedes, rank}
 use Rattle.task_listing.specs.Judging.{State, begun, judge, walk, walk_on, limited, ended, closed, finished, verdict, Verdict}
-use Rattle.task_listing.specs.Reading.{program_of}
-use Rattle.task_listing.specs.Laws.{IsProgram, IsListing, HasOneFault, ListingIsOfOne, ListingIsFaultless, IsListingOrFault, NoListingHasFault}
+use Rattle.task_listing.specs.Reading.{program_of, Judges}
+use Rattle.task_listing.specs.Laws.{IsProgram, IsListing, HasOneFault, ListingIsOfOne, ListingIsFaultless, IsListingOrFault, NoListingHasFault, ReadsBack}
 use Rattle.task_listing.proofs.Joined as joined
 use Rattle.task_listing.proofs.Joined.{lines_back}
 use Rattle.task_listing.proofs.Runs.{Known, at, IsWhole, AllFit}
 use Rattle.task_listing.proofs.Items.{put_task, FitsTask}
-use Rattle.task_listing.proofs.Programs.{final, rows, FitsProgram, program_taken, Listed, lines_listed, rows_text, listing_lines}
+use Rattle.task_listing.proofs.Programs.{final, program_taken, Listed, lines_listed, rows_text, listing_lines}
 use Rattle.task_listing.proofs.Ruled.{final_monitors, final_outputs, final_tasks, final_words, final_instructions, fits_keeps, keeps_fits}
 use Rattle.task_listing.proofs.Verdicts.{fault_is_first, none_is_faultless}
 
@@ -86,7 +89,7 @@ walked_of bs t h = length_by bs (nat_lt byte_limit (length bs)) t refl h
 
 -- ---- the program that was read
 
-program_is : (p : Program) → program_of (at [] (final p)) ≡ p
+pub program_is : (p : Program) → program_of (at [] (final p)) ≡ p
 program_is p = λ i. record { monitors = final_monitors p i; outputs = final_outputs p i; tasks = final_tasks p i }
 
 -- what was read of a text
@@ -174,3 +177,18 @@ apart bs n k l f = by (subst (λ bs. length bs ≤ byte_limit) l.same l.short)
   where
     by : length (listing l.program) ≤ byte_limit → ⊥
     by short = subst IsFaultless (sym l.same) (faultless l.program l.is_program short) n k f.offends
+
+-- ---- read back
+
+pub read_back : (bs : Bytes) (r : Result Program ListFault) → IfOk r (λ q. (s : State) × (verdict bs ≡ Ok s) × (q ≡ program_of s)) → IfErr r (λ f. Judges (verdict bs) f) → ReadsBack bs r
+read_back bs (Ok q) w g p h e l =
+    let r = is_read bs w.0 w.1 in
+    let same : program_of w.0 ≡ p = of_one (program_of w.0) p r.is_program h (sym r.same ∙ e) in
+    inl (ap right (w.2 ∙ same))
+  where
+    right : Program → Result Program ListFault
+    right p = Ok p
+read_back bs (Err (list_fault.At n k)) w g p h e l =
+    let short : length (listing p) ≤ byte_limit = subst (λ bs. length bs ≤ byte_limit) e l in
+    absurd (subst IsFaultless (sym e) (faultless p h short) n k (fault_is_first bs n k g).offends)
+read_back bs (Err list_fault.NoMemory) w g p h e l = inr refl

@@ -1,5 +1,5 @@
 -- The rules that a program keeps of which the lines are taken, and that the lines of one are taken that keeps them.
-use Rattle.std.proofs.Common.{◌≡◌, ◌∙◌, ℕ, zero, suc, ◌+◌, ◌*◌, ◌<◌, ◌≤◌, ◌^◌, List, [], ◌∷◌, ◌++◌, length, map, Bool, true, false, refl, sym, ap, subst, arith, append_assoc, append-nil}
+use Rattle.std.proofs.Common.{◌≡◌, ◌∙◌, ℕ, ◌+◌, ◌*◌, ◌<◌, ◌≤◌, ◌^◌, List, [], ◌∷◌, ◌++◌, length, map, Bool, true, false, refl, sym, ap, arith, append_assoc, append-nil}
 use Rattle.std.specs.Prelude.{sum, ◌&&◌, nat_lt, nat_le, slice_index}
 use Rattle.std.specs.List.{All}
 use Rattle.std.proofs.lemmas.Bool.{ltb-true, lt-ltb, leb-true, le-leb}
@@ -13,12 +13,12 @@ use Rattle.task_code.specs.Program.{Program}
 use Rattle.task_code.specs.Rules.{most_words, most_instructions, IsRange, IsInstr, IsBuffer, IsTask, KeepsRules, task_words, all_words, all_instructions}
 use Rattle.task_listing.specs.declared.rules.Head.{Head}
 use Rattle.task_listing.specs.Context.{counted_to}
-use Rattle.task_listing.specs.Draft.{Draft, ended_task, begun_task}
+use Rattle.task_listing.specs.Draft.{ended_task}
 use Rattle.task_listing.specs.Judging.{is_range, keeps}
 use Rattle.task_listing.specs.InstrRows.{IsOperands, IsSmall}
 use Rattle.task_listing.proofs.Runs.{Known, puts, AllFit}
 use Rattle.task_listing.proofs.Items.{IsFew, put_monitor, put_output, put_buffer, FitsBuffer, put_instr, FitsInstr, begin_task, with_buffers, put_task, FitsTask}
-use Rattle.task_listing.proofs.Programs.{fresh, with_monitors, with_outputs, with_tasks, final, FitsProgram}
+use Rattle.task_listing.proofs.Programs.{fresh, with_monitors, with_outputs, final, FitsProgram}
 
 -- ---- what items make of what is known
 

@@ -1,9 +1,8 @@
 -- Runs of lines: what a program's lines make of what is known, and that lines which are taken are those of a program.
-use Rattle.std.proofs.Common.{◌≡◌, ◌≢◌, ◌∙◌, ℕ, zero, suc, ◌+◌, ◌<◌, ◌≤◌, ◌^◌, List, [], ◌∷◌, ◌++◌, length, map, Bool, true, false, Option, Some, None, Ok, Err, refl, sym, ap, subst, arith, replicate, append_assoc, length-append}
+use Rattle.std.proofs.Common.{◌≡◌, ◌∙◌, ℕ, zero, suc, ◌+◌, ◌<◌, ◌≤◌, ◌^◌, List, [], ◌∷◌, ◌++◌, length, map, Bool, true, false, Some, None, Ok, Err, refl, sym, ap, arith, replicate, append_assoc, length-append}
 use Rattle.std.specs.List.{join_with_byte}
 use Rattle.std.proofs.lemmas.List.Splits.{join_with_byte-slice_split}
 use Rattle.task_code.specs.Rules.{most_words}
-use Rattle.task_listing.specs.declared.fault.ListKind.{ListKind}
 use Rattle.task_listing.specs.declared.kind.Kind.{Kind}
 use Rattle.task_listing.specs.declared.rules.Head.{Head}
 use Rattle.task_listing.specs.Lines.{Bytes, words}
@@ -12,7 +11,7 @@ use Rattle.task_listing.specs.Spelling.{Word, natural, text, with_numbers}
 use Rattle.task_listing.specs.Context.{Context}
 use Rattle.task_listing.specs.Draft.{Draft}
 use Rattle.task_listing.specs.Answers.{Answer, count_line}
-use Rattle.task_listing.specs.Judging.{State, judge_kind, breaks, breaks_kind, next, next_kind, walk, marked, fault_in}
+use Rattle.task_listing.specs.Judging.{State, judge_kind, breaks_kind, next, next_kind, walk, marked, fault_in}
 use Rattle.task_listing.proofs.Taken.{walk_step}
 use Rattle.task_listing.proofs.Firsts.{walk_none, walked_marked, next_place}
 use Rattle.task_listing.proofs.Spelled.{numbers_text, count_line_is}

@@ -1,12 +1,10 @@
 -- What the words of a line are that was read.
-use Rattle.std.proofs.Common.{◌≡◌, ◌∙◌, ℕ, zero, suc, ◌+◌, ◌<◌, ◌≤◌, ◌^◌, ◌-◌, ℤ, pos, negsuc, neg_ℤ, List, [], ◌∷◌, ◌++◌, map, Bool, true, false, cond, Option, Some, None, Ok, Err, refl, sym, ap, subst, arith, eqb, decimal}
+use Rattle.std.proofs.Common.{◌≡◌, ◌∙◌, ℕ, zero, suc, ◌<◌, ◌≤◌, ◌^◌, ◌-◌, ℤ, pos, neg_ℤ, List, [], ◌∷◌, map, Bool, true, false, cond, Option, Some, None, Ok, Err, refl, sym, ap, subst, arith, eqb, decimal}
 use Rattle.std.specs.Prelude.{codes, bytes_eq, find, ◌&&◌, ◌≤ℤ◌, ◌<ℤ◌}
 use Rattle.std.specs.Option.{option_map}
 use Rattle.std.specs.Fmt.{signed_decimal}
-use Rattle.std.specs.Str.Parse.{digits_value}
 use Rattle.std.proofs.lemmas.Bool.{eqb-true}
 use Rattle.std.proofs.lemmas.Int.{ints}
-use Rattle.std.proofs.lemmas.Fmt.{decimal_is_IsNumeral}
 use Rattle.std.proofs.lemmas.Slice.Eq.{bytes_eq-Decides}
 use Rattle.tower_types.specs.declared.scalar.Scalar.{Scalar}
 use Rattle.tower_types.specs.declared.scalar.Scalar.TheVariants as scalars
@@ -30,12 +28,10 @@ use Rattle.task_listing.specs.declared.operation.WithThree.{WithThree}
 use Rattle.task_listing.specs.declared.operation.WithThree.TheVariants as three
 use Rattle.task_listing.specs.Lines.{Bytes}
 use Rattle.task_listing.specs.Numbers.{is_word, is_number}
-use Rattle.task_listing.specs.Spelling.{Word, text, with_numbers, words_of, scalar_text}
-use Rattle.task_listing.specs.Listing.{task_line}
-use Rattle.task_listing.specs.Context.{numbers}
-use Rattle.task_listing.specs.Answers.{Answer, number_in, or_err, if_word, count_up_to, count, priority, any_number, operand, negated, unsigned, literal_in, literal, unary_named, binary_named, scalar_named, index_type, type_of, type, both, and_then, title_line, ending_line, count_line, buffer_line, plain_word, plain_named, plain_instr, one_word, one_named, one_instr, two_word, two_named, two_instr, three_word, three_named, three_instr, with_one, with_two, with_three, push, one_line, two_line, three_line, literal_line, cast_line, unary_line, binary_line, plain_line, instr_line}
+use Rattle.task_listing.specs.Spelling.{text, with_numbers, scalar_text}
+use Rattle.task_listing.specs.Answers.{Answer, number_in, or_err, if_word, count_up_to, count, priority, operand, negated, unsigned, literal_in, literal, unary_named, binary_named, scalar_named, index_type, type_of, type, both, and_then, title_line, ending_line, count_line, buffer_line, plain_word, plain_named, plain_instr, one_word, one_named, one_instr, two_word, two_named, two_instr, three_word, three_named, three_instr, with_one, with_two, with_three, push, one_line, two_line, three_line, literal_line, cast_line, unary_line, binary_line, plain_line, instr_line}
 use Rattle.task_listing.specs.Answers.{task_line as read_task_line}
-use Rattle.task_listing.specs.InstrRows.{IsOperands, Spells}
+use Rattle.task_listing.specs.InstrRows.{Spells}
 use Rattle.task_listing.proofs.Decimals.{number_is}
 
 -- ---- answers
@@ -141,37 +137,37 @@ word_is {A} word xs x w h = (named word (λ x. Unit {0}) xs x w (each xs) h).0
     each [] = tt
     each (x ∷ xs) = (tt, each xs)
 
-plain_is_named : (w : Bytes) (o : Plain) → plain_named w ≡ Some o → w ≡ plain_word o
+pub plain_is_named : (w : Bytes) (o : Plain) → plain_named w ≡ Some o → w ≡ plain_word o
 plain_is_named w o h = word_is plain_word (plain.Drop ∷ plain.Dup ∷ plain.Ret ∷ []) o w h
 
-one_is_named : (w : Bytes) (o : WithOne) → one_named w ≡ Some o → w ≡ one_word o
+pub one_is_named : (w : Bytes) (o : WithOne) → one_named w ≡ Some o → w ≡ one_word o
 one_is_named w o h =
     word_is one_word (one.Ld ∷ one.St ∷ one.Jmp ∷ one.Jz ∷ one.Call ∷ one.Take ∷ one.Lock ∷ one.Unlock ∷ one.Bclr ∷ one.Bput ∷ one.Badd ∷ one.Bget ∷ one.Bcnt ∷ []) o w h
 
-two_is_named : (w : Bytes) (o : WithTwo) → two_named w ≡ Some o → w ≡ two_word o
+pub two_is_named : (w : Bytes) (o : WithTwo) → two_named w ≡ Some o → w ≡ two_word o
 two_is_named w o h = word_is two_word (two.Ldx ∷ two.Stx ∷ two.Out ∷ []) o w h
 
-three_is_named : (w : Bytes) (o : WithThree) → three_named w ≡ Some o → w ≡ three_word o
+pub three_is_named : (w : Bytes) (o : WithThree) → three_named w ≡ Some o → w ≡ three_word o
 three_is_named w o h = word_is three_word (three.Ldm ∷ three.Stm ∷ []) o w h
 
-unary_is_named : (w : Bytes) (o : UnOp) → unary_named w ≡ Some o → w ≡ unary_word o
+pub unary_is_named : (w : Bytes) (o : UnOp) → unary_named w ≡ Some o → w ≡ unary_word o
 unary_is_named w o h = word_is unary_word (un.Not ∷ un.Neg ∷ []) o w h
 
-binary_is_named : (w : Bytes) (o : BinOp) → binary_named w ≡ Some o → w ≡ binary_word o
+pub binary_is_named : (w : Bytes) (o : BinOp) → binary_named w ≡ Some o → w ≡ binary_word o
 binary_is_named w o h =
     word_is binary_word (op.Add ∷ op.Sub ∷ op.Mul ∷ op.Div ∷ op.Rem ∷ op.And ∷ op.Or ∷ op.Xor ∷ op.Eq ∷ op.Less ∷ op.LessEq ∷ op.Both ∷ op.Either ∷ []) o w h
 
 -- ---- types
 
 -- the word of a type, which keeps its range
-record IsType (w : Bytes) (s : Scalar) : Type 0 where
-  same : w ≡ scalar_text s
-  within : IsScalar s
+pub record IsType (w : Bytes) (s : Scalar) : Type 0 where
+  pub same : w ≡ scalar_text s
+  pub within : IsScalar s
 
 abbrev Simple : Scalar → Type 0
 Simple s = (scalar_word s ≡ scalar_text s) × IsScalar s
 
-simple_is : (w : Bytes) (s : Scalar) → scalar_named w ≡ Some s → IsType w s
+pub simple_is : (w : Bytes) (s : Scalar) → scalar_named w ≡ Some s → IsType w s
 simple_is w s h =
     let f = named scalar_word Simple (scalars.Bool ∷ scalars.U8 ∷ scalars.U16 ∷ scalars.U32 ∷ scalars.U64 ∷ scalars.I8 ∷ scalars.I16 ∷ scalars.I32 ∷ scalars.I64 ∷ []) s w ((refl, tt), ((refl, tt), ((refl, tt), ((refl, tt), ((refl, tt), ((refl, tt), ((refl, tt), ((refl, tt), ((refl, tt), tt))))))))) h in
     record { same = f.0 ∙ f.1.0; within = f.1.1 }

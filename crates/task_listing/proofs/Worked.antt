@@ -1,11 +1,10 @@
 -- The worked texts, computed.
-use Rattle.std.proofs.Common.{◌≡◌, ℕ, ◌≤◌, ◌<◌, List, [], ◌∷◌, All, refl, arith}
-use Rattle.std.specs.Prelude.{codes, slice_index_or}
+use Rattle.std.proofs.Common.{◌≤◌, [], All, refl, arith}
 use Rattle.std.specs.Fmt.{digits}
 use Rattle.std.proofs.lemmas.Int.{ints}
 use Rattle.std.proofs.lemmas.List.Elements.{All-nil, All-cons, All-from_recursion}
 use Rattle.task_code.specs.WorkedListing.{counter, counter_task, instructions}
-use Rattle.task_code.specs.Rules.{IsInstr, IsBuffer, IsTask, KeepsRules, most_words}
+use Rattle.task_code.specs.Rules.{IsInstr, IsBuffer, IsTask, most_words}
 use Rattle.task_listing.specs.Laws.{IsProgram}
 use Rattle.task_listing.specs.WorkedTexts.{WorkedTexts}
 use Rattle.task_listing.proofs.Verdicts.{fault_is_first}

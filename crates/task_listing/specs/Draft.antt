@@ -1,5 +1,5 @@
 -- A program, as far as its listing was read.
-use Rattle.std.specs.Prelude.{ℕ, List, [], ◌∷◌, ◌++◌, Bool, true, false, Option, Some, None, Result, Ok, Err}
+use Rattle.std.specs.Prelude.{ℕ, List, [], ◌∷◌, ◌++◌, Bool, true, false, Option, Some, None, Ok, Err}
 use Rattle.task_code.specs.declared.program.Buffer.{Buffer}
 use Rattle.task_code.specs.declared.program.Task.{Task}
 use Rattle.task_code.specs.declared.program.Instr.{Instr}

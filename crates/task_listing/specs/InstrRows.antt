@@ -1,5 +1,5 @@
 -- When words are a line of an instruction, by its row of the table.
-use Rattle.std.specs.Prelude.{◌≡◌, ◌<◌, ◌^◌, ℤ, pos, neg_ℤ, ◌≤ℤ◌, ◌<ℤ◌, List, map}
+use Rattle.std.specs.Prelude.{◌≡◌, ◌<◌, ◌^◌, pos, neg_ℤ, ◌≤ℤ◌, ◌<ℤ◌, List, map}
 use Rattle.task_code.specs.declared.program.Instr.{Instr}
 use Rattle.task_code.specs.declared.program.Instr.TheVariants as instr
 use Rattle.task_code.specs.Rules.{IsScalar}

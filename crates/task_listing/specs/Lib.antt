@@ -12,5 +12,7 @@ pub mod Draft
 pub mod Judging
 pub mod Reading
 pub mod InstrRows
+pub mod Forms
 pub mod Laws
 pub mod WorkedTexts
+pub mod WorkedTable

@@ -1,5 +1,5 @@
 -- Worked texts: the listing of the counter, whose marks are worked in `task_code`, and what is wrong with damaged ones.
-use Rattle.std.specs.Prelude.{◌≡◌, ℕ, List, [], ◌++◌, codes}
+use Rattle.std.specs.Prelude.{◌≡◌, ℕ, [], ◌++◌, codes}
 use Rattle.task_code.specs.WorkedListing.{counter}
 use Rattle.task_listing.specs.declared.fault.ListKind.{ListKind}
 use Rattle.task_listing.specs.declared.fault.ListKind.TheVariants as fault

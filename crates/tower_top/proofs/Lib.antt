@@ -7,4 +7,3 @@ pub mod FileFacts
 pub mod InputFacts
 pub mod RunFacts
 pub mod RunLaws
-pub mod Priorities

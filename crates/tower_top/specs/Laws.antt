@@ -11,11 +11,8 @@ use Rattle.tower_top.specs.Top.{request_of}
 use Rattle.tower_top.specs.Compile.{listing_of}
 use Rattle.tower_syntax.specs.Arch.{Arch}
 use Rattle.arch_checks.specs.Offences.{IsAccepted}
-use Rattle.task_code.specs.Program.{Program}
 use Rattle.task_build.specs.CodeOf.{code_of}
-use Rattle.task_listing.specs.Listing.{listing}
-use Rattle.task_listing.specs.Laws.{IsProgram}
-use Rattle.lock_reduction.specs.Reduce.{Sound}
+use Rattle.listing_laws.specs.Laws.{ListsOneSound}
 
 -- where the shelf tells what is to be read, at most one status is due, with one text on `out` and one on `err`
 abbrev pub OneAnswer : Type 0
@@ -41,13 +38,6 @@ DueComes = (words : List (List ℕ)) → (call : Call) → (status s : Status) �
 abbrev pub AnswersAreDue : Type 0
 AnswersAreDue = (words : List (List ℕ)) → (held : Held) → (s : Status) → (text : Bytes) → HasAnswer held (request_of words) s text → IsDue held (request_of words) s text []
 
--- the text is the listing of this program and of no other, and the program is sound
-pub record ListsOneSound (arch : Arch) (text : Bytes) (p : Program) : Type 0 where
-  pub is_program : IsProgram p
-  pub same : text ≡ listing p
-  pub one : (q : Program) → IsProgram q → text ≡ listing q → q ≡ p
-  pub sound : Sound arch p
-
--- what `compile` writes of an accepted file is the listing of one program, and that is sound
+-- what `compile` writes of an accepted file is the listing of one program, which is read back, and that is sound
 abbrev pub ListingsAreSound : Type 0
 ListingsAreSound = (bs : List ℕ) (arch : Arch) → IsAccepted bs arch → ListsOneSound arch (listing_of arch) (code_of arch)

@@ -27,7 +27,8 @@ pub fn enough_is_done()
 {}
 
 /// What `compile` writes of an accepted file is the listing of one program and of no other, and that program is sound: in
-/// every run over every event record that fits, whatever order of turns, it does what the handlers say.
+/// every run over every event record that fits, whatever order of turns, it does what the handlers say. It is within the
+/// limit on texts and has no fault, so the listing's reader answers this program, with no condition left but memory.
 pub fn listings_are_sound()
     ensures { ListingsAreSound }
 {}

@@ -1,7 +1,7 @@
 use Rattle.std.proofs.Common.{◌∙◌, ap, sym}
 use Rattle.std.proofs.lemmas.Result.{IfOk-weaker, IfErr-weaker}
 use Rattle.task_listing.specs.Listing.{listing}
-use Rattle.task_listing.proofs.Readings.{is_read}
+use Rattle.task_listing.proofs.Readings.{is_read, read_back}
 use Rattle.task_listing.proofs.Verdicts.{none_is_faultless, is_told}
 use Rattle.task_listing.proofs.listings.read.Goals as goal
 
@@ -13,3 +13,6 @@ returns-clause-none c = IfOk-weaker c.read_lines.result _ _ (λ p w. none_is_fau
 
 pub returns-clause-fault : goal.returns-clause-fault
 returns-clause-fault c = IfErr-weaker c.read_lines.result _ _ (λ f w. is_told c.args.text.now f w) c.read_lines.ensures.fault
+
+pub returns-clause-back : goal.returns-clause-back
+returns-clause-back c = read_back c.args.text.now c.read_lines.result c.read_lines.ensures.program c.read_lines.ensures.fault
