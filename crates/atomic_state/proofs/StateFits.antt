@@ -28,10 +28,22 @@ module _ (arch : Arch) where
   abbrev ItemFits : Item → Type 0
   ItemFits i = fits_item arch i ≡ true
 
+  abbrev OutputFits : ℕ × Value → Type 0
+  OutputFits o = fits_item arch (to.Output o.0, o.1) ≡ true
+
   -- a message comes
   bring_if : (full : Bool) (s : Atomic) (m : ℕ × Value) → FitsState arch s → Fits m.0 m.1 → let queue = slice_index_or s.queues m.0 [] in
       FitsState arch (cond full (record s { lost = slice_set s.lost m.0 (slice_index s.lost m.0 + 1) }) (record s { queues = slice_set s.queues m.0 (queue ++ m.1 ∷ []) }))
-  bring_if true s m f h = record { monitors = f.monitors; monitor_count = f.monitor_count; queues = f.queues; queue_count = f.queue_count; pending = f.pending; pending_count = f.pending_count }
+  bring_if true s m f h = record {
+    monitors = f.monitors;
+    monitor_count = f.monitor_count;
+    queues = f.queues;
+    queue_count = f.queue_count;
+    pending = f.pending;
+    pending_count = f.pending_count;
+    lost_count = length-set s.lost m.0 (slice_index s.lost m.0 + 1) ∙ f.lost_count;
+    outputs = f.outputs;
+  }
   bring_if false s m f h =
       let queue : List Value = slice_index_or s.queues m.0 [] in
       record {
@@ -41,6 +53,8 @@ module _ (arch : Arch) where
         queue_count = length-set s.queues m.0 (queue ++ m.1 ∷ []) ∙ f.queue_count;
         pending = f.pending;
         pending_count = f.pending_count;
+        lost_count = f.lost_count;
+        outputs = f.outputs;
       }
 
   brought_fits : (ms : List (ℕ × Value)) (s : Atomic) → FitsState arch s → FitBrought arch ms → FitsState arch (fold (bring (system_of arch)) s ms)
@@ -77,6 +91,8 @@ module _ (arch : Arch) where
       queue_count = length-map (system_of arch).kinds first_queue ∙ length-map arch.sources _;
       pending = start_pending;
       pending_count = length-map (system_of arch).kinds _ ∙ length-map arch.sources _;
+      lost_count = length-map (system_of arch).kinds _ ∙ length-map arch.sources _;
+      outputs = All-nil OutputFits;
     }
 
     module _ (a : Atomic) (f : FitsState arch a) where
@@ -84,7 +100,16 @@ module _ (arch : Arch) where
       is_now b c e g = subst (FitsState arch) (same_Some b c e) g
 
       moved : FitsState arch (record a { place = a.place + 1 })
-      moved = record { monitors = f.monitors; monitor_count = f.monitor_count; queues = f.queues; queue_count = f.queue_count; pending = f.pending; pending_count = f.pending_count }
+      moved = record {
+        monitors = f.monitors;
+        monitor_count = f.monitor_count;
+        queues = f.queues;
+        queue_count = f.queue_count;
+        pending = f.pending;
+        pending_count = f.pending_count;
+        lost_count = f.lost_count;
+        outputs = f.outputs;
+      }
 
       arrives : (o : Option Entry) → slice_get events.entries a.place ≡ o → (b : Atomic) → arrive (system_of arch) events a o ≡ Some b → FitsState arch b
       arrives None at b e = absurd (none-some b e)
@@ -103,6 +128,8 @@ module _ (arch : Arch) where
             queue_count = length-set a.queues x rest ∙ f.queue_count;
             pending = after_set (λ y items. FitItems arch items) a.pending x ((system_of arch).subscribers x v) f.pending (keeps.delivered x v (All-head (Fits x) v rest all));
             pending_count = length-set a.pending x ((system_of arch).subscribers x v) ∙ f.pending_count;
+            lost_count = f.lost_count;
+            outputs = f.outputs;
           }
 
       begins_if : (may : Bool) (x : ℕ) (v : Value) (rest : List Value) → slice_get a.queues x ≡ Some (v ∷ rest) → (b : Atomic)
@@ -139,6 +166,8 @@ module _ (arch : Arch) where
             pending = after_set (λ y items. FitItems arch items) a.pending x ((system_of arch).follow h done.lists ++ rest) f.pending
                 (All-append ItemFits ((system_of arch).follow h done.lists) rest (keeps.sent_fit h was v fits first) (All-tail ItemFits (to.Handler h, v) rest all));
             pending_count = length-set a.pending x ((system_of arch).follow h done.lists ++ rest) ∙ f.pending_count;
+            lost_count = f.lost_count;
+            outputs = f.outputs;
           }
 
       handles : (x : ℕ) (o : Option (List Item)) → slice_get a.pending x ≡ o → (b : Atomic) → run (system_of arch) a x o ≡ Some b → FitsState arch b
@@ -156,6 +185,8 @@ module _ (arch : Arch) where
             queue_count = f.queue_count;
             pending = after_set (λ y items. FitItems arch items) a.pending x rest f.pending (All-tail ItemFits (to.Output o, v) rest all);
             pending_count = length-set a.pending x rest ∙ f.pending_count;
+            lost_count = f.lost_count;
+            outputs = All-push OutputFits a.outputs (o, v) f.outputs (All-head ItemFits (to.Output o, v) rest all);
           }
 
       makes : (x : ℕ) (o : Option (List Item)) → slice_get a.pending x ≡ o → (b : Atomic) → put a x o ≡ Some b → FitsState arch b

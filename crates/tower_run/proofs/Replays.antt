@@ -163,7 +163,7 @@ module _ (s : Setting) (events : Events) (keeps : KeepsTypes s) (fits : Fits s e
   pub replay_fits : (ms : List Mark) (a : Atomic) → replay s.system events ms ≡ Some a → AreFitting s a
   replay_fits ms a e = all_acts ms (Some (start s.system)) (λ b h. subst (AreFitting s) (same_Some (start s.system) b h) start_fits) a e
 
-setting_keeps : (arch : Arch) → IsWellNumbered arch → IsTyped arch → KeepsTypes (setting_of arch)
+pub setting_keeps : (arch : Arch) → IsWellNumbered arch → IsTyped arch → KeepsTypes (setting_of arch)
 setting_keeps arch numbered typed =
     let k = keeps_types arch numbered typed in
     record { zeros = k.zeros; first_message = k.first_message; delivered = k.delivered; has_monitor = k.has_monitor; after_fits = k.after_fits; sent_fit = k.sent_fit }

@@ -14,4 +14,5 @@ mod scheduler;
 mod turns;
 mod waits;
 
+pub use page::Page;
 pub use run::{Ran, run_program};

@@ -1,0 +1,10 @@
+use Rattle.std.specs.Prelude.{slice_index}
+use Rattle.tower_io.specs.declared.answers.Put.TheVariants.{Done}
+use Rattle.tower_report.specs.EndText.{lost_text}
+use Rattle.tower_run.specs.Paging.{PutsOver}
+use Rattle.tower_run.proofs.Paging.{texts_before}
+use Rattle.tower_replay.proofs.text.put_losses.Given as goal
+
+abbrev pub invariant-loop-x : goal.invariant-loop-x
+invariant-loop-x g l =
+    PutsOver g.O.Sink.written g.O.Sink.faults l.initial.out l.initial.page.held l.out l.page.held (texts_before (λ x. lost_text l.arch x (slice_index l.state.state.lost x)) l.x) Done
